@@ -1,0 +1,4 @@
+pub mod Tests
+pub mod Bits
+pub mod Order
+pub mod Masks

@@ -1,0 +1,3 @@
+pub mod Rules
+pub mod Calculus
+pub mod Blocks

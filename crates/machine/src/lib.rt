@@ -1,0 +1,1 @@
+// The calculus: what a block does. Definitions in specs/, laws in proofs/.

@@ -1,0 +1,3 @@
+pub mod Syntax
+pub mod Code
+pub mod Sheet

@@ -1,0 +1,86 @@
+-- Document 01, "The programme sheet", with refusals 6 to 10. Assumes nothing.
+use Prim.Native.Nat.{ℕ, zero, suc, _+_, _*_, _%_}
+use mathlib.Core.Bool.{Bool}
+use mathlib.Core.List.{List, [], _∷_}
+use lib.ListN.{getD, length}
+use lib.Dec.{ltb, leb, eqb}
+use Rattle.lattice.specs.Tests.{_and_, every}
+use Rattle.lattice.specs.Order.{Label}
+use Rattle.store.specs.declared.Answer.{Answer}
+use Rattle.store.specs.Result.{Result, ok, _>>=_, require, refusedAs, unplaced}
+use Rattle.store.specs.Bytes.{numberAt, part}
+use Rattle.store.specs.Sheet.{sizesWidth}
+use Rattle.programme.specs.Syntax.{Cmd}
+use Rattle.programme.specs.Code.{Fault, readBlock}
+
+-- what a block's entries in the sheet's arrays say, besides its length
+pub record Header : Type 0 where
+  pub region : Label
+  pub endorsed : Bool
+
+pub record Block : Type 0 where
+  pub header : Header
+  pub command : Cmd
+
+-- "k (1 byte), the number of blocks, 0 to 64, and c (2 bytes), the code bytes, 0 to 16,384"
+abbrev pub mostBlocks : ℕ
+mostBlocks = 64
+
+abbrev pub mostCode : ℕ
+mostCode = 16384
+
+abbrev pub kOf : List ℕ → ℕ
+kOf p = numberAt 1 p 0
+
+abbrev pub cOf : List ℕ → ℕ
+cOf p = numberAt 2 p 1
+
+-- "Then two parallel arrays: k regions (1 byte: principal, plus 80 when endorsed) and k block lengths (2 bytes ..). Then the code."
+abbrev pub endorsedBit : ℕ
+endorsedBit = 0x80
+
+unfoldable pub headerAt : List ℕ → ℕ → Header
+headerAt p i =
+    let b = getD p (sizesWidth + i) 0 in
+    record { region = b % endorsedBit; endorsed = leb endorsedBit b }
+
+abbrev pub lengthAt : List ℕ → ℕ → ℕ
+lengthAt p i = numberAt 2 p (sizesWidth + kOf p + 2 * i)
+
+abbrev pub codeAt : ℕ → ℕ
+codeAt k = sizesWidth + 3 * k
+
+-- where the i-th block's code starts in the code: the lengths of all blocks before it, added up
+unfoldable pub startOf : List ℕ → ℕ → ℕ
+startOf p zero = 0
+startOf p (suc i) = startOf p i + lengthAt p i
+
+abbrev pub codeOf : List ℕ → ℕ → List ℕ
+codeOf p i = part p (codeAt (kOf p) + startOf p i) (lengthAt p i)
+
+-- "8 region's principal not below n"
+unfoldable pub headerGood : ℕ → Header → Bool
+headerGood n h = ltb (h .region) n
+
+-- "9 and 10 give block, offset and steps 0 done"
+abbrev pub inBlock : ℕ → Fault → Answer
+inBlock i e = record { number = e .number; block = i; offset = e .offset; steps = 0 }
+
+unfoldable pub blockAt : ℕ → List ℕ → ℕ → Result Answer Block
+blockAt m p i = refusedAs (inBlock i) (readBlock m (codeOf p i)) >>= λ c. ok (record { header = headerAt p i; command = c })
+
+-- n blocks from the i-th on, in byte order
+unfoldable pub blocksFrom : ℕ → List ℕ → ℕ → ℕ → Result Answer (List Block)
+blocksFrom m p zero i = ok []
+blocksFrom m p (suc n) i = blockAt m p i >>= λ b. blocksFrom m p n (i + 1) >>= λ bs. ok (b ∷ bs)
+
+-- "programme sizes (6, 7), length (6); 8 in block order; length sum (6); 9 or 10 in byte order"
+-- The tables that it is judged against give n principals and m slots.
+unfoldable pub programmeSheet : ℕ → ℕ → List ℕ → Result Answer (List Block)
+programmeSheet n m p =
+    require (leb sizesWidth (length p)) (unplaced 6) (
+    require (leb (kOf p) mostBlocks and leb (cOf p) mostCode) (unplaced 7) (
+    require (eqb (length p) (codeAt (kOf p) + cOf p)) (unplaced 6) (
+    require (every (kOf p) (λ i. headerGood n (headerAt p i))) (unplaced 8) (
+    require (eqb (startOf p (kOf p)) (cOf p)) (unplaced 6) (
+    blocksFrom m p (kOf p) 0)))))

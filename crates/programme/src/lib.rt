@@ -1,0 +1,1 @@
+// The programme sheet and the code of its blocks. Definitions in specs/, laws in proofs/.

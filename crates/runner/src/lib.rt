@@ -1,0 +1,1 @@
+// The whole run, from two sheets to an answer and an output. Definitions in specs/, laws in proofs/.

@@ -1,0 +1,60 @@
+-- Laws of numbers, values and slots in bytes: their widths, and that what is written is read back. Assumes nothing.
+use Prim.Native.Nat.{ℕ, zero, suc, _+_, _*_, _/_, _%_, _^_, _<_}
+use mathlib.Core.Path.{_≡_, refl, ap, ap₂, _∙_}
+use mathlib.Core.List.{List, _∷_}
+use native.Mathlib.Nat.{pow-suc, div-lt-iff-lt-mul}
+use native.Mathlib.Numerals.{add-one}
+use native.Mathlib.Omega.{arith}
+use lib.ListN.{length, getD, length-append}
+use Rattle.store.specs.Bytes.{numberAt, numberBytes}
+use Rattle.store.specs.declared.Value.{Value}
+use Rattle.store.specs.Value.{payloadWidth, valueWidth, valueAt, valueBytes, Slot, opened, assigned, emptySlot, slotWidth, slotBytes}
+use Rattle.store.specs.Sheet.{slotsBytes}
+
+pub length-number : (width x : ℕ) → length (numberBytes width x) ≡ width
+unfolding numberBytes
+length-number zero x = refl
+length-number (suc width) x = ap suc (length-number width (x / 256))
+
+pub length-value : (v : Value) → length (valueBytes v) ≡ valueWidth
+unfolding valueBytes
+length-value v = ap suc (length-number payloadWidth (v .payload))
+
+pub length-slot : (s : Slot) → length (slotBytes s) ≡ slotWidth
+unfolding slotBytes
+length-slot s = length-value (s .value)
+
+pub length-slots : (store : List Slot) (i n : ℕ) → length (slotsBytes store i n) ≡ slotWidth * n
+unfolding slotsBytes
+length-slots store i zero = refl
+length-slots store i (suc n) =
+    length-append (slotBytes (getD store i emptySlot)) (slotsBytes store (i + 1) n)
+    ∙ omega (arith, length-slot (getD store i emptySlot), length-slots store (i + 1) n)
+
+-- a byte in front moves every number by one
+shifted : (b : ℕ) (width : ℕ) (s : List ℕ) (at : ℕ) → numberAt width (b ∷ s) (at + 1) ≡ numberAt width s at
+unfolding numberAt
+shifted b zero s at = refl
+shifted b (suc width) s at = ap₂ (λ (x y : ℕ). x + 256 * y) (rw add-one) (shifted b width s (at + 1))
+
+pub number-read : (width x : ℕ) → x < 256 ^ width → numberAt width (numberBytes width x) 0 ≡ x
+unfolding numberAt numberBytes
+number-read zero x h = omega arith
+number-read (suc width) x h =
+    let k : x / 256 < 256 ^ width = div-lt-iff-lt-mul {k = 256} (omega arith) .1 (rw pow-suc at h) in
+    omega (arith, shifted (x % 256) width (numberBytes width (x / 256)) 0, number-read width (x / 256) k)
+
+pub value-read : (v : Value) → v .payload < 256 ^ payloadWidth → valueAt (valueBytes v) 0 ≡ v
+unfolding valueAt valueBytes
+value-read v h =
+    ap (λ (p : ℕ). record { kind = v .kind; payload = p })
+    (shifted (v .kind) payloadWidth (numberBytes payloadWidth (v .payload)) 0 ∙ number-read payloadWidth (v .payload) h)
+
+-- what a slot holds after it was filled, and after it was assigned to
+pub opened-value : (v : Value) → opened v .value ≡ v
+unfolding opened
+opened-value v = refl
+
+pub assigned-value : (v : Value) (s : Slot) → assigned v s .value ≡ v
+unfolding assigned
+assigned-value v s = refl

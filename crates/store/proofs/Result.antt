@@ -1,0 +1,71 @@
+-- Laws of answers: what holds of the value where there is one, and of the refusal where there is one. Assumes nothing.
+use mathlib.Core.Path.{_≡_, refl}
+use mathlib.Core.Bool.{Bool, true, false}
+use Rattle.store.specs.Result.{Result, ok, refuse, _>>=_, require, refusedAs}
+
+unfoldable pub Post : {E A : Type 0} → (A → Type 0) → (E → Type 0) → Result E A → Type 0
+Post P Q (ok a) = P a
+Post P Q (refuse e) = Q e
+
+-- said of refusals that no one asks about
+abbrev pub Any : {E : Type 0} → E → Type 0
+Any e = Unit {0}
+
+module _ {E A : Type 0} where
+  pub post-ok : (P : A → Type 0) (Q : E → Type 0) (a : A) → P a → Post P Q (ok a)
+  unfolding Post
+  post-ok P Q a p = p
+
+  pub post-refuse : (P : A → Type 0) (Q : E → Type 0) (e : E) → Q e → Post P Q (refuse e)
+  unfolding Post
+  post-refuse P Q e q = q
+
+  pub post-all : (P : A → Type 0) (Q : E → Type 0) (r : Result E A) → ((a : A) → P a) → ((e : E) → Q e) → Post P Q r
+  unfolding Post
+  post-all P Q (ok a) p q = p a
+  post-all P Q (refuse e) p q = q e
+
+  pub post-map : (P P′ : A → Type 0) (Q Q′ : E → Type 0) (r : Result E A)
+      → Post P Q r → ((a : A) → P a → P′ a) → ((e : E) → Q e → Q′ e) → Post P′ Q′ r
+  unfolding Post
+  post-map P P′ Q Q′ (ok a) h p q = p a h
+  post-map P P′ Q Q′ (refuse e) h p q = q e h
+
+  pub post-require : (P : A → Type 0) (Q : E → Type 0) (b : Bool) (e : E) (r : Result E A)
+      → (b ≡ true → Post P Q r) → (b ≡ false → Q e) → Post P Q (require b e r)
+  unfolding Post require
+  post-require P Q true e r h q = h refl
+  post-require P Q false e r h q = q refl
+
+  pub bind-ok : (r : Result E A) → (r >>= λ a. ok a) ≡ r
+  unfolding _>>=_
+  bind-ok (ok a) = refl
+  bind-ok (refuse e) = refl
+
+module _ {E F A : Type 0} where
+  pub post-refused-as : (P : A → Type 0) (Q : F → Type 0) (f : E → F) (r : Result E A)
+      → Post P (λ e. Q (f e)) r → Post P Q (refusedAs f r)
+  unfolding Post refusedAs
+  post-refused-as P Q f (ok a) h = h
+  post-refused-as P Q f (refuse e) h = h
+
+module _ {E A B : Type 0} where
+  pub post-bind : (P : A → Type 0) (P′ : B → Type 0) (Q : E → Type 0) (r : Result E A) (k : A → Result E B)
+      → Post P Q r → ((a : A) → P a → Post P′ Q (k a)) → Post P′ Q (r >>= k)
+  unfolding Post _>>=_
+  post-bind P P′ Q (ok a) k p h = h a p
+  post-bind P P′ Q (refuse e) k p h = p
+
+  -- two continuations that agree on what the first answer can be
+  pub bind-same : (P : A → Type 0) (Q : E → Type 0) (r : Result E A) (k k′ : A → Result E B)
+      → Post P Q r → ((a : A) → P a → k a ≡ k′ a) → (r >>= k) ≡ (r >>= k′)
+  unfolding Post _>>=_
+  bind-same P Q (ok a) k k′ p h = h a p
+  bind-same P Q (refuse e) k k′ p h = refl
+
+module _ {E A B C : Type 0} where
+  pub bind-assoc : (r : Result E A) (k : A → Result E B) (l : B → Result E C)
+      → (r >>= k >>= l) ≡ (r >>= λ a. k a >>= l)
+  unfolding _>>=_
+  bind-assoc (ok a) k l = refl
+  bind-assoc (refuse e) k l = refl

@@ -1,0 +1,4 @@
+pub mod Result
+pub mod Bytes
+pub mod Value
+pub mod Sheet

@@ -1,0 +1,83 @@
+-- Values and slots, in sheets, code and output. Assumes nothing.
+use Prim.Native.Nat.{ℕ, suc, _+_}
+use mathlib.Core.Bool.{Bool}
+use mathlib.Core.List.{List, _∷_}
+use lib.ListN.{getD}
+use lib.Dec.{ltb, eqb}
+use Rattle.lattice.specs.Tests.{_and_, _or_}
+use Rattle.store.specs.declared.Value.{Value}
+use Rattle.store.specs.Bytes.{numberAt, numberBytes}
+
+-- "A value is a kind byte and a 4-byte payload": `Value` is the struct of src/lib.rt
+abbrev pub payloadWidth : ℕ
+payloadWidth = 4
+
+abbrev pub valueWidth : ℕ
+valueWidth = suc payloadWidth
+
+-- "0 integer (signed, two's complement), 1 truth value (payload 0 false, 1 true), 2 read view and 3 write view"
+abbrev pub integer : ℕ
+integer = 0
+
+abbrev pub truth : ℕ
+truth = 1
+
+abbrev pub readView : ℕ
+readView = 2
+
+abbrev pub writeView : ℕ
+writeView = 3
+
+abbrev pub is : ℕ → Value → Bool
+is kind v = eqb (v .kind) kind
+
+abbrev pub isWriteView : Value → Bool
+isWriteView v = is writeView v
+
+-- the kinds are the numbers below this one
+abbrev pub kinds : ℕ
+kinds = 4
+
+-- the slot that a view names
+abbrev pub viewed : Value → ℕ
+viewed v = v .payload
+
+-- a truth value's meaning
+abbrev pub holds : Value → Bool
+holds v = eqb (v .payload) 1
+
+-- what a kind lets its payload be where there are m slots: "payload a slot number below m"
+unfoldable pub wellFormed : ℕ → Value → Bool
+wellFormed m v =
+    is integer v
+    or is truth v and ltb (v .payload) 2
+    or (is readView v or isWriteView v) and ltb (viewed v) m
+
+unfoldable pub valueAt : List ℕ → ℕ → Value
+valueAt s at = record { kind = getD s at 0; payload = numberAt payloadWidth s (at + 1) }
+
+unfoldable pub valueBytes : Value → List ℕ
+valueBytes v = v .kind ∷ numberBytes payloadWidth (v .payload)
+
+-- what a slot holds
+pub record Slot : Type 0 where
+  pub value : Value
+
+-- a slot as the store sheet fills it
+unfoldable pub opened : Value → Slot
+opened v = record { value = v }
+
+-- a slot after v was assigned to it
+unfoldable pub assigned : Value → Slot → Slot
+assigned v s = record { value = v }
+
+-- "Slots from m up to 255 are held as integer 0"
+unfoldable pub emptySlot : Slot
+emptySlot = opened (record { kind = integer; payload = 0 })
+
+-- a slot in the output
+abbrev pub slotWidth : ℕ
+slotWidth = valueWidth
+
+unfoldable pub slotBytes : Slot → List ℕ
+slotBytes s = valueBytes (s .value)

@@ -1,0 +1,107 @@
+//! The rule sets and the budget: what the caller chooses, and what an
+//! assignment or a value is judged by.
+
+use crate::answer::Refusal;
+use crate::order::{Order, Principal};
+use crate::sheet::{Region, Table};
+use crate::value::Value;
+
+/// The most steps a run may do.
+#[derive(Debug, Clone, Copy)]
+pub(crate) struct Budget(u32);
+
+impl Budget {
+    const MOST_STEPS: u32 = 1_000_000;
+
+    pub fn from_steps(steps: u32) -> Option<Budget> {
+        (steps <= Budget::MOST_STEPS).then_some(Budget(steps))
+    }
+
+    /// "if steps done equal the budget, the run is spent"
+    pub fn is_spent(self, steps_done: u32) -> bool {
+        steps_done == self.0
+    }
+}
+
+/// The labels an assignment brings: those of its target, its value and the
+/// branch it stands in.
+#[derive(Debug, Clone, Copy)]
+pub(crate) struct Labels {
+    pub target: Principal,
+    pub value: Principal,
+    pub branch: Principal,
+}
+
+#[derive(Debug, Clone, Copy, PartialEq, Eq)]
+pub(crate) enum RuleSet {
+    AccessControl,
+    Capability,
+    ExplicitProvenance,
+    FullProvenance,
+}
+
+impl RuleSet {
+    const ACCESS_CONTROL: u8 = 0;
+    const CAPABILITY: u8 = 1;
+    const EXPLICIT_PROVENANCE: u8 = 2;
+    const FULL_PROVENANCE: u8 = 3;
+    /// "Rule 255, the house rule, is rule 0."
+    const HOUSE: u8 = 255;
+
+    pub fn from_number(number: u8) -> Option<RuleSet> {
+        match number {
+            RuleSet::ACCESS_CONTROL | RuleSet::HOUSE => Some(RuleSet::AccessControl),
+            RuleSet::CAPABILITY => Some(RuleSet::Capability),
+            RuleSet::EXPLICIT_PROVENANCE => Some(RuleSet::ExplicitProvenance),
+            RuleSet::FULL_PROVENANCE => Some(RuleSet::FullProvenance),
+            _ => None,
+        }
+    }
+
+    /// Judges a literal or the result of a read by 15. Under rule 1 a write
+    /// view "must have an owner at or below the region"; no other rule asks.
+    pub fn judge_value(self, table: &Table, region: Region, value: Value) -> Result<(), Refusal> {
+        match (self, value) {
+            (RuleSet::Capability, Value::WriteView(slot)) => {
+                let allowed = table.order.at_or_below(table.owner(slot), region.principal);
+                allowed.then_some(()).ok_or(Refusal::WriteViewNotAllowed)
+            }
+            _ => Ok(()),
+        }
+    }
+
+    /// Judges an assignment to a slot of this owner once target and value are
+    /// evaluated: 14, then 16.
+    pub fn judge_assignment(
+        self,
+        order: &Order,
+        region: Region,
+        owner: Principal,
+        labels: Labels,
+    ) -> Result<(), Refusal> {
+        if self.asks_authority() && !order.at_or_below(owner, region.principal) {
+            return Err(Refusal::NoAuthority);
+        }
+        let mut judged = self.judged_labels(labels).into_iter();
+        if !region.endorsed && !judged.all(|label| order.at_or_below(owner, label)) {
+            return Err(Refusal::ProvenanceTooLow);
+        }
+        Ok(())
+    }
+
+    /// Rules 2 and 3 contain rule 0; rule 1 judges write views as they turn
+    /// up and asks nothing more of an assignment.
+    fn asks_authority(self) -> bool {
+        self != RuleSet::Capability
+    }
+
+    /// The labels that must stand at or above the owner, unless the block is
+    /// endorsed.
+    fn judged_labels(self, labels: Labels) -> Vec<Principal> {
+        match self {
+            RuleSet::AccessControl | RuleSet::Capability => vec![],
+            RuleSet::ExplicitProvenance => vec![labels.target, labels.value],
+            RuleSet::FullProvenance => vec![labels.target, labels.value, labels.branch],
+        }
+    }
+}

@@ -1,0 +1,186 @@
+//! The run: expressions, guards and assignments, recursive over the tree.
+//! Refusals 13 to 17.
+
+use crate::answer::{Answer, BlockRefusal, Refusal};
+use crate::code::{Block, Command, Expression, Form};
+use crate::order::Principal;
+use crate::rule::{Budget, Labels, RuleSet};
+use crate::sheet::{Region, Store};
+use crate::value::Value;
+
+/// A finished run.
+pub(crate) struct End {
+    pub store: Store,
+    pub steps: u32,
+}
+
+/// "Blocks run in order."
+pub(crate) fn run_blocks(
+    opening: Store,
+    blocks: &[Block],
+    rule: RuleSet,
+    budget: Budget,
+) -> Result<End, Answer> {
+    let mut run = Run::opening(opening, rule, budget);
+    for (number, block) in blocks.iter().enumerate() {
+        run.block(block)
+            .map_err(|refused| refused.in_block(number, run.steps))?;
+    }
+    Ok(End {
+        store: run.store,
+        steps: run.steps,
+    })
+}
+
+/// What an expression gives: a value and its label.
+struct Labelled {
+    value: Value,
+    label: Principal,
+}
+
+/// What a guard gives: which way to go and its label.
+struct Guard {
+    holds: bool,
+    label: Principal,
+}
+
+struct Run {
+    store: Store,
+    rule: RuleSet,
+    budget: Budget,
+    steps: u32,
+}
+
+impl Run {
+    fn opening(store: Store, rule: RuleSet, budget: Budget) -> Run {
+        let steps = Answer::NO_STEPS;
+        Run {
+            store,
+            rule,
+            budget,
+            steps,
+        }
+    }
+
+    /// The branch label "is top at a block's start".
+    fn block(&mut self, block: &Block) -> Result<(), BlockRefusal> {
+        let top = self.store.table.order.top();
+        self.command(block.region, &block.command, top)
+    }
+
+    /// Runs a command under a branch label. The label is handed inwards only,
+    /// so whatever a part was run under, the outer one is back after it.
+    fn command(
+        &mut self,
+        region: Region,
+        command: &Command,
+        branch: Principal,
+    ) -> Result<(), BlockRefusal> {
+        let here = |refusal| BlockRefusal {
+            refusal,
+            offset: command.offset,
+        };
+        match &command.form {
+            Form::Skip => Ok(()),
+            Form::Assignment { target, value } => {
+                self.assignment(region, target, value, branch).map_err(here)
+            }
+            Form::Sequence(commands) => commands
+                .iter()
+                .try_for_each(|inner| self.command(region, inner, branch)),
+            Form::If {
+                guard,
+                then_part,
+                else_part,
+            } => {
+                let guard = self.guard(region, guard).map_err(here)?;
+                let part = if guard.holds { then_part } else { else_part };
+                self.command(region, part, self.inside(branch, &guard))
+            }
+            Form::While { guard, body } => loop {
+                let guard = self.guard(region, guard).map_err(here)?;
+                if !guard.holds {
+                    return Ok(());
+                }
+                self.command(region, body, self.inside(branch, &guard))?;
+            },
+        }
+    }
+
+    /// Inside a part the branch label is "the meet of the outer one and the
+    /// guard's label".
+    fn inside(&self, outer: Principal, guard: &Guard) -> Principal {
+        self.store.table.order.meet(outer, guard.label)
+    }
+
+    /// One step: judges a guard, which must be a truth value.
+    fn guard(&mut self, region: Region, guard: &Expression) -> Result<Guard, Refusal> {
+        self.judge_budget()?;
+        let Labelled { value, label } = self.evaluate(region, guard)?;
+        let Value::Truth(holds) = value else {
+            return Err(Refusal::WrongKind);
+        };
+        self.steps += 1;
+        Ok(Guard { holds, label })
+    }
+
+    /// One step: "target evaluated first, must be a write view, then the
+    /// value"; then the rule judges the assignment itself.
+    fn assignment(
+        &mut self,
+        region: Region,
+        target: &Expression,
+        value: &Expression,
+        branch: Principal,
+    ) -> Result<(), Refusal> {
+        self.judge_budget()?;
+        let target = self.evaluate(region, target)?;
+        let Value::WriteView(slot) = target.value else {
+            return Err(Refusal::WrongKind);
+        };
+        let value = self.evaluate(region, value)?;
+        let labels = Labels {
+            target: target.label,
+            value: value.label,
+            branch,
+        };
+        let table = &self.store.table;
+        self.rule
+            .judge_assignment(&table.order, region, table.owner(slot), labels)?;
+        self.store.assign(slot, value.value);
+        self.steps += 1;
+        Ok(())
+    }
+
+    /// "Before each step, if steps done equal the budget, the run is spent."
+    fn judge_budget(&self) -> Result<(), Refusal> {
+        if self.budget.is_spent(self.steps) {
+            return Err(Refusal::BudgetSpent);
+        }
+        Ok(())
+    }
+
+    /// Works an expression "from its literal outwards": at each stage the
+    /// value that turns up is judged by 15 before its kind is by 13.
+    fn evaluate(&self, region: Region, expression: &Expression) -> Result<Labelled, Refusal> {
+        let table = &self.store.table;
+        let given = match expression {
+            Expression::Literal(value) => Labelled {
+                value: *value,
+                label: table.order.top(),
+            },
+            Expression::Read(inner) => {
+                let view = self.evaluate(region, inner)?;
+                let Value::ReadView(slot) = view.value else {
+                    return Err(Refusal::WrongKind);
+                };
+                Labelled {
+                    value: self.store.value(slot),
+                    label: table.order.meet(view.label, table.owner(slot)),
+                }
+            }
+        };
+        self.rule.judge_value(table, region, given.value)?;
+        Ok(given)
+    }
+}

@@ -1,0 +1,288 @@
+//! The store sheet, the table sheet and the programme sheet up to its code:
+//! refusals 1 to 8.
+
+use crate::answer::Refusal;
+use crate::bytes::{number, take};
+use crate::order::{Order, Principal};
+use crate::value::{SlotNumber, Value};
+
+/// The sizes a store sheet or a table sheet starts with.
+#[derive(Debug, Clone, Copy)]
+pub(crate) struct StoreSizes {
+    principals: usize,
+    pub slots: usize,
+}
+
+impl StoreSizes {
+    const PRINCIPALS_BYTES: usize = 1;
+    const SLOTS_BYTES: usize = 2;
+    const OWNER_BYTES: usize = 1;
+
+    /// The sizes on the sheet, or None if it can't hold them.
+    pub fn from_sheet(sheet: &[u8]) -> Option<StoreSizes> {
+        let mut rest = sheet;
+        Some(StoreSizes {
+            principals: number(take(&mut rest, StoreSizes::PRINCIPALS_BYTES)?) as usize,
+            slots: number(take(&mut rest, StoreSizes::SLOTS_BYTES)?) as usize,
+        })
+    }
+
+    /// Sizes judged in the order of document 01: "store sizes present (1), in
+    /// limits (2), total length (1)". What is after them is handed back too.
+    fn judge(
+        sheet: &[u8],
+        length: fn(&StoreSizes) -> usize,
+    ) -> Result<(StoreSizes, &[u8]), Refusal> {
+        let sizes = StoreSizes::from_sheet(sheet).ok_or(Refusal::StoreLength)?;
+        if !sizes.are_in_limits() {
+            return Err(Refusal::StoreLimits);
+        }
+        if sheet.len() != length(&sizes) {
+            return Err(Refusal::StoreLength);
+        }
+        let mut rest = sheet;
+        take(&mut rest, StoreSizes::bytes()).ok_or(Refusal::StoreLength)?;
+        Ok((sizes, rest))
+    }
+
+    fn are_in_limits(&self) -> bool {
+        let principals = Order::FEWEST_PRINCIPALS..=Order::MOST_PRINCIPALS;
+        principals.contains(&self.principals) && self.slots <= Store::MOST_SLOTS
+    }
+
+    fn bytes() -> usize {
+        StoreSizes::PRINCIPALS_BYTES + StoreSizes::SLOTS_BYTES
+    }
+
+    fn masks_bytes(&self) -> usize {
+        self.principals * Order::MASK_BYTES
+    }
+
+    fn owners_bytes(&self) -> usize {
+        self.slots * StoreSizes::OWNER_BYTES
+    }
+
+    /// "A table sheet is a store sheet that ends after its owners."
+    fn table_bytes(&self) -> usize {
+        StoreSizes::bytes() + self.masks_bytes() + self.owners_bytes()
+    }
+
+    pub fn store_bytes(&self) -> usize {
+        self.table_bytes() + self.slots * Value::BYTES
+    }
+}
+
+/// What a table sheet says: the order and the owner of each slot.
+#[derive(Debug, Clone)]
+pub(crate) struct Table {
+    pub order: Order,
+    owners: Vec<Principal>,
+}
+
+impl Table {
+    /// "it is judged by the same numbers in the same order"
+    pub fn from_sheet(sheet: &[u8]) -> Result<Table, Refusal> {
+        let (sizes, mut rest) = StoreSizes::judge(sheet, StoreSizes::table_bytes)?;
+        let order = read_order(&sizes, &mut rest)?;
+        let owners = rest.iter().map(|byte| read_owner(&order, *byte));
+        let owners = owners.collect::<Result<_, _>>()?;
+        Ok(Table { order, owners })
+    }
+
+    /// m, the number of slots.
+    pub fn slots(&self) -> usize {
+        self.owners.len()
+    }
+
+    /// Views are only made for slots below m, so every one has an owner.
+    pub fn owner(&self, slot: SlotNumber) -> Principal {
+        self.owners[slot.index()]
+    }
+
+    pub fn owners(&self) -> &[Principal] {
+        &self.owners
+    }
+}
+
+/// What a slot holds, apart from its owner. Labels are not kept in slots.
+#[derive(Debug, Clone, Copy)]
+pub(crate) struct Slot {
+    pub value: Value,
+}
+
+impl Slot {
+    /// The bytes a slot takes in the output.
+    pub const OUTPUT_BYTES: usize = Value::BYTES;
+    const UNUSED: Slot = Slot {
+        value: Value::Integer(0),
+    };
+
+    fn to_output(self) -> [u8; Slot::OUTPUT_BYTES] {
+        self.value.to_bytes()
+    }
+
+    /// The slot that these output bytes show, among `slots` slots.
+    pub fn from_output(bytes: &[u8], slots: usize) -> Option<Slot> {
+        Value::from_bytes(bytes, slots).map(|value| Slot { value })
+    }
+}
+
+/// A good store: the table and what each slot holds.
+#[derive(Debug, Clone)]
+pub(crate) struct Store {
+    pub table: Table,
+    /// "Slots from m up to 255 are held as integer 0."
+    held: [Slot; Store::MOST_SLOTS],
+}
+
+impl Store {
+    pub const MOST_SLOTS: usize = 256;
+
+    pub fn from_sheet(sheet: &[u8]) -> Result<Store, Refusal> {
+        let (sizes, mut rest) = StoreSizes::judge(sheet, StoreSizes::store_bytes)?;
+        let order = read_order(&sizes, &mut rest)?;
+        let owner_bytes = take(&mut rest, sizes.owners_bytes()).ok_or(Refusal::StoreLength)?;
+        let mut owners = Vec::new();
+        let mut held = [Slot::UNUSED; Store::MOST_SLOTS];
+        // "then slot by slot 4 before 5"
+        let sheet_slots = owner_bytes.iter().zip(rest.chunks_exact(Value::BYTES));
+        for ((owner, value), slot) in sheet_slots.zip(&mut held) {
+            owners.push(read_owner(&order, *owner)?);
+            slot.value = Value::from_bytes(value, sizes.slots).ok_or(Refusal::Value)?;
+        }
+        let table = Table { order, owners };
+        Ok(Store { table, held })
+    }
+
+    /// The present value of a slot.
+    pub fn value(&self, slot: SlotNumber) -> Value {
+        self.held[slot.index()].value
+    }
+
+    pub fn assign(&mut self, slot: SlotNumber, value: Value) {
+        self.held[slot.index()].value = value;
+    }
+
+    /// The length the output must have.
+    pub fn output_bytes(&self) -> usize {
+        self.table.slots() * Slot::OUTPUT_BYTES
+    }
+
+    /// Writes the slots below m to an output of just that length.
+    pub fn write_to(&self, output: &mut [u8]) {
+        for (bytes, slot) in output.chunks_exact_mut(Slot::OUTPUT_BYTES).zip(&self.held) {
+            bytes.copy_from_slice(&slot.to_output());
+        }
+    }
+}
+
+/// Takes the masks off `rest` and judges them by 3.
+fn read_order(sizes: &StoreSizes, rest: &mut &[u8]) -> Result<Order, Refusal> {
+    let bytes = take(rest, sizes.masks_bytes()).ok_or(Refusal::StoreLength)?;
+    let masks: Vec<u32> = bytes
+        .chunks_exact(Order::MASK_BYTES)
+        .map(|mask| number(mask) as u32)
+        .collect();
+    Order::from_masks(&masks).ok_or(Refusal::OrderTable)
+}
+
+fn read_owner(order: &Order, byte: u8) -> Result<Principal, Refusal> {
+    order.principal(byte).ok_or(Refusal::Owner)
+}
+
+/// For whom a block runs.
+#[derive(Debug, Clone, Copy)]
+pub(crate) struct Region {
+    pub principal: Principal,
+    pub endorsed: bool,
+}
+
+impl Region {
+    const BYTES: usize = 1;
+    /// "principal, plus 80 when endorsed"
+    const ENDORSED: u8 = 0x80;
+
+    fn from_byte(byte: u8, order: &Order) -> Result<Region, Refusal> {
+        let endorsed = byte >= Region::ENDORSED;
+        let number = if endorsed {
+            byte - Region::ENDORSED
+        } else {
+            byte
+        };
+        let principal = order.principal(number).ok_or(Refusal::Region)?;
+        Ok(Region {
+            principal,
+            endorsed,
+        })
+    }
+}
+
+/// What the sheet says of a block ahead of the code.
+#[derive(Debug, Clone, Copy)]
+pub(crate) struct BlockHeader {
+    pub region: Region,
+    pub length: usize,
+}
+
+impl BlockHeader {
+    const LENGTH_BYTES: usize = 2;
+    const BYTES: usize = Region::BYTES + BlockHeader::LENGTH_BYTES;
+}
+
+/// A programme sheet whose code is not yet read; the lengths of its blocks add
+/// up to the code.
+#[derive(Debug, Clone)]
+pub(crate) struct ProgrammeSheet<'a> {
+    pub headers: Vec<BlockHeader>,
+    pub code: &'a [u8],
+}
+
+impl<'a> ProgrammeSheet<'a> {
+    pub const MOST_BLOCKS: usize = 64;
+    pub const MOST_CODE_BYTES: usize = 16_384;
+    const BLOCKS_BYTES: usize = 1;
+    const CODE_SIZE_BYTES: usize = 2;
+
+    /// "programme sizes (6, 7), length (6); 8 in block order; length sum (6)"
+    pub fn from_bytes(sheet: &'a [u8], table: &Table) -> Result<ProgrammeSheet<'a>, Refusal> {
+        let mut rest = sheet;
+        let mut read = |count| take(&mut rest, count).ok_or(Refusal::ProgrammeLength);
+        let blocks = number(read(Self::BLOCKS_BYTES)?) as usize;
+        let code_size = number(read(Self::CODE_SIZE_BYTES)?) as usize;
+        if blocks > Self::MOST_BLOCKS || code_size > Self::MOST_CODE_BYTES {
+            return Err(Refusal::ProgrammeLimits);
+        }
+        if sheet.len() != Self::sheet_bytes(blocks, code_size) {
+            return Err(Refusal::ProgrammeLength);
+        }
+        let regions = read(blocks * Region::BYTES)?;
+        let lengths = read(blocks * BlockHeader::LENGTH_BYTES)?;
+        let code = read(code_size)?;
+        let headers = read_headers(regions, lengths, table)?;
+        let length_sum: usize = headers.iter().map(|header| header.length).sum();
+        if length_sum != code_size {
+            return Err(Refusal::ProgrammeLength);
+        }
+        Ok(ProgrammeSheet { headers, code })
+    }
+
+    fn sheet_bytes(blocks: usize, code_size: usize) -> usize {
+        Self::BLOCKS_BYTES + Self::CODE_SIZE_BYTES + blocks * BlockHeader::BYTES + code_size
+    }
+}
+
+/// The headers from their parallel arrays, each region judged by 8.
+fn read_headers(
+    regions: &[u8],
+    lengths: &[u8],
+    table: &Table,
+) -> Result<Vec<BlockHeader>, Refusal> {
+    let lengths = lengths.chunks_exact(BlockHeader::LENGTH_BYTES);
+    let headers = regions.iter().zip(lengths).map(|(region, length)| {
+        Ok(BlockHeader {
+            region: Region::from_byte(*region, &table.order)?,
+            length: number(length) as usize,
+        })
+    });
+    headers.collect()
+}

@@ -1,0 +1,373 @@
+//! Inputs from a fixed stream of random numbers: programmes built by the
+//! grammar, the same with bytes altered, and bytes without any form. Whatever
+//! comes, the runner answers within its contract.
+
+mod common;
+
+use common::*;
+use second_runner::{check_store, check_table, print, Answer};
+
+/// A fixed stream of numbers (xorshift), so that a failure comes again.
+struct Random(u64);
+
+impl Random {
+    /// The stream of this number, a few steps on, where near numbers differ.
+    fn stream(number: u64) -> Random {
+        let mut random = Random(0x9E37_79B9_7F4A_7C15 ^ (number + 1));
+        for _ in 0..8 {
+            random.next();
+        }
+        random
+    }
+
+    fn next(&mut self) -> u64 {
+        self.0 ^= self.0 << 13;
+        self.0 ^= self.0 >> 7;
+        self.0 ^= self.0 << 17;
+        self.0
+    }
+
+    fn below(&mut self, bound: usize) -> usize {
+        (self.next() >> 16) as usize % bound
+    }
+
+    fn one_in(&mut self, count: usize) -> bool {
+        self.below(count) == 0
+    }
+
+    fn bytes(&mut self, most: usize) -> Bytes {
+        let length = self.below(most + 1);
+        (0..length).map(|_| self.next() as u8).collect()
+    }
+}
+
+/// Streams apart from those of the good calls, which start at 0.
+const ALTERED: u64 = 1 << 32;
+const FORMLESS: u64 = 2 << 32;
+const FORMLESS_CODE: u64 = 3 << 32;
+
+/// Good tables: one principal, two ways to number a pair, a diamond, a chain.
+const TABLES: [&[u32]; 5] = [&[1], &PAIR, &[0b11, 0b10], &DIAMOND, &[0b111, 0b110, 0b100]];
+
+/// Sheets built by the grammar for a store of this many slots.
+struct Maker {
+    random: Random,
+    principals: usize,
+    slots: usize,
+}
+
+impl Maker {
+    fn value(&mut self) -> Bytes {
+        let kinds = if self.slots == 0 { 2 } else { 4 };
+        match self.random.below(kinds) {
+            0 => integer(self.random.next() as i64),
+            1 => truth(self.random.one_in(2)),
+            2 => read_view(self.random.below(self.slots) as i64),
+            _ => write_view(self.random.below(self.slots) as i64),
+        }
+    }
+
+    fn store(&mut self, masks: &[u32]) -> Bytes {
+        let mut slots = Vec::new();
+        for _ in 0..self.slots {
+            slots.push((self.random.below(self.principals) as u8, self.value()));
+        }
+        store(masks, &slots)
+    }
+
+    /// Some expression, often one that suits a guard or a target.
+    fn expression(&mut self, suited: Bytes) -> Bytes {
+        match self.random.below(5) {
+            0 => literal(self.value()),
+            1 if self.slots > 0 => {
+                let slot = self.random.below(self.slots) as i64;
+                reads(1 + self.random.below(3), slot)
+            }
+            _ => literal(suited),
+        }
+    }
+
+    fn guard(&mut self) -> Bytes {
+        let holds = truth(self.random.one_in(2));
+        self.expression(holds)
+    }
+
+    fn assignment(&mut self) -> Bytes {
+        let view = if self.slots == 0 {
+            integer(0)
+        } else {
+            write_view(self.random.below(self.slots) as i64)
+        };
+        let target = self.expression(view);
+        let suited = self.value();
+        assign(target, self.expression(suited))
+    }
+
+    fn command(&mut self, depth: usize) -> Bytes {
+        let forms = if depth == 0 { 4 } else { 8 };
+        match self.random.below(forms) {
+            0 => skip(),
+            1..=3 => self.assignment(),
+            4 | 5 => {
+                let count = 2 + self.random.below(2);
+                let parts: Vec<Bytes> = (0..count).map(|_| self.command(depth - 1)).collect();
+                sequence(&parts)
+            }
+            6 => {
+                let guard = self.guard();
+                let then_part = self.command(depth - 1);
+                if_else(guard, then_part, self.command(depth - 1))
+            }
+            _ => {
+                let guard = self.guard();
+                while_do(guard, self.command(depth - 1))
+            }
+        }
+    }
+
+    fn programme(&mut self) -> Bytes {
+        let mut blocks = Vec::new();
+        for _ in 0..self.random.below(4) {
+            let principal = self.random.below(self.principals) as u8;
+            let endorsed = if self.random.one_in(4) { 0x80 } else { 0 };
+            blocks.push((principal | endorsed, self.command(3)));
+        }
+        programme(&blocks)
+    }
+}
+
+/// A call whose sheets are good.
+fn good_call(seed: u64) -> Call {
+    let mut random = Random::stream(seed);
+    let masks = TABLES[random.below(TABLES.len())];
+    let slots = random.below(6);
+    let budget = random.below(40) as u32;
+    let rule = RULES[random.below(RULES.len())];
+    let mut maker = Maker {
+        random,
+        principals: masks.len(),
+        slots,
+    };
+    let (store, programme) = (maker.store(masks), maker.programme());
+    call(&store, &programme, rule).budget(budget)
+}
+
+/// The same with a few bytes altered, left out or put in.
+fn altered_call(seed: u64) -> Call {
+    let mut random = Random::stream(seed + ALTERED);
+    let mut call = good_call(seed);
+    for _ in 0..1 + random.below(2) {
+        let in_store = random.one_in(3);
+        let sheet = if in_store {
+            &mut call.store
+        } else {
+            &mut call.programme
+        };
+        let at = random.below(sheet.len());
+        match random.below(6) {
+            0 => drop(sheet.remove(at)),
+            1 => sheet.insert(at, random.next() as u8),
+            2 => sheet[at] = sheet[at].wrapping_add(1),
+            3 => sheet[at] = [0x10, 0x11, 0x20, 0x21, 0x22, 0x24][random.below(6)],
+            _ => sheet[at] = random.next() as u8,
+        }
+    }
+    call
+}
+
+/// What document 01 says of any answer, whatever the sheets hold.
+fn check_contract(call: &Call) -> Answer {
+    let (answer, output) = call.play();
+    let place = (answer.block, answer.offset, answer.steps);
+    match answer.number {
+        0 => {
+            assert_eq!(answer.block, u32::from(call.programme[0]));
+            assert_eq!(answer.offset, 0);
+            assert!(answer.steps <= call.budget);
+            assert_eq!(check_store(&end_sheet(call, &output)), 0);
+        }
+        1..=8 | 11 | 12 => assert_eq!(place, (0, 0, 0)),
+        9 | 10 => assert_eq!(answer.steps, 0),
+        13..=16 => assert!(answer.steps < call.budget),
+        17 => assert_eq!(answer.steps, call.budget),
+        other => panic!("an unknown number {other}"),
+    }
+    if answer.number != 0 {
+        assert_untouched(&output);
+    }
+    if matches!(answer.number, 9 | 10 | 13..=17) {
+        let length = block_length(call, answer.block);
+        let may_be_past = answer.number == 9;
+        assert!(answer.offset < length || may_be_past && answer.offset == length);
+    }
+    check_printed(call, answer, &output);
+    answer
+}
+
+/// The store sheet with the output's values in place of its own.
+fn end_sheet(call: &Call, output: &[u8]) -> Bytes {
+    let start = call.store.len() - output.len();
+    join(&[&call.store[..start], output])
+}
+
+fn block_length(call: &Call, block: u32) -> u32 {
+    let blocks = usize::from(call.programme[0]);
+    let block = block as usize;
+    assert!(block < blocks);
+    let at = 3 + blocks + 2 * block;
+    u32::from(u16::from_le_bytes([
+        call.programme[at],
+        call.programme[at + 1],
+    ]))
+}
+
+/// The printing program says what the run does, wherever it splits its input
+/// into the same two sheets.
+fn check_printed(call: &Call, answer: Answer, output: &[u8]) {
+    let arguments = join(&[&[call.rule], &call.budget.to_le_bytes()]);
+    let text = print(&join(&[&arguments, &call.store, &call.programme]));
+    let text = String::from_utf8(text).expect("plain letters");
+    assert!(text.starts_with("end ") && text.ends_with('\n'));
+    if answer.number == 0 || answer.number > 5 {
+        let Answer {
+            number,
+            block,
+            offset,
+            steps,
+        } = answer;
+        let line = format!("end {number} block {block} at {offset} steps {steps}");
+        assert_eq!(text.lines().next(), Some(&line[..]));
+        let slots = if number == 0 {
+            output.len() / OUTPUT_SLOT
+        } else {
+            0
+        };
+        assert_eq!(text.lines().count(), 1 + slots);
+    }
+}
+
+/// How often each number was the answer.
+fn tally(calls: impl Iterator<Item = Call>) -> [u32; 18] {
+    let mut counts = [0; 18];
+    for call in calls {
+        counts[check_contract(&call).number as usize] += 1;
+    }
+    counts
+}
+
+#[test]
+fn good_sheets_end_finished_or_in_a_step() {
+    let counts = tally((0..30_000).map(good_call));
+    for (number, count) in counts.iter().enumerate() {
+        let expected = number == 0 || number >= 13;
+        assert_eq!(*count > 0, expected, "number {number}: {count}");
+    }
+}
+
+#[test]
+fn altered_sheets_meet_nearly_every_refusal() {
+    let counts = tally((0..60_000).map(altered_call));
+    for (number, count) in counts.iter().enumerate() {
+        // Nothing here nests so deep, calls wrongly or lends another length.
+        let expected = !matches!(number, 10..=12);
+        assert_eq!(*count > 0, expected, "number {number}: {count}");
+    }
+}
+
+#[test]
+fn formless_bytes_are_answered() {
+    let mut random = Random::stream(FORMLESS);
+    for _ in 0..50_000 {
+        let (one, two) = (random.bytes(40), random.bytes(40));
+        let (rule, length) = (random.next() as u8, random.below(30));
+        let formless = call(&one, &two, rule).budget(random.next() as u32);
+        let (answer, output) = formless.lend(length);
+        assert!(answer.number <= 17);
+        if answer.number != 0 {
+            assert_untouched(&output);
+        }
+        assert!(check_store(&one) <= 5);
+        assert!(check_table(&two) <= 4);
+        assert!(print(&one).starts_with(b"end "));
+    }
+}
+
+/// Pieces of code, each repeated some times, without any form.
+fn formless_code(random: &mut Random) -> Bytes {
+    let pieces: [&[u8]; 9] = [
+        &[0x10],
+        &[0x10, 0x01, 0, 0, 0, 0],
+        &[0x11],
+        &[0x20],
+        &[0x21],
+        &[0x22, 0x02],
+        &[0x23, 0x10, 0x01, 0x01, 0, 0, 0],
+        &[0x24, 0x10, 0x01, 0x00, 0, 0, 0],
+        &[0x00],
+    ];
+    let mut code = Bytes::new();
+    for _ in 0..1 + random.below(4) {
+        let piece = pieces[random.below(pieces.len())];
+        code.extend(piece.repeat(1 + random.below(40)));
+    }
+    code
+}
+
+#[test]
+fn formless_code_is_refused_inside_its_block() {
+    let mut random = Random::stream(FORMLESS_CODE);
+    let calls = (0..20_000).map(|_| {
+        let code = formless_code(&mut random);
+        call_block(&example_store(), 1, code, 3)
+    });
+    let counts = tally(calls);
+    assert!(counts[9] > 0 && counts[10] > 0);
+    assert_eq!(
+        counts[1..9].iter().sum::<u32>() + counts[11] + counts[12],
+        0
+    );
+}
+
+#[test]
+fn each_rule_gives_its_own_refusals_only() {
+    for seed in 0..20_000 {
+        let call = good_call(seed);
+        let number = |rule| call.rule(rule).play().0.number;
+        assert!(matches!(number(0), 0 | 13 | 14 | 17));
+        assert!(matches!(number(1), 0 | 13 | 15 | 17));
+        assert!(matches!(number(2), 0 | 13 | 14 | 16 | 17));
+        assert!(matches!(number(3), 0 | 13 | 14 | 16 | 17));
+    }
+}
+
+#[test]
+fn what_finishes_under_a_stricter_rule_finishes_alike_under_a_milder() {
+    let mut finished = [0; 3];
+    for seed in 0..20_000 {
+        let call = good_call(seed);
+        let ladder = [(3, 2), (2, 0), (1, 0)];
+        for (at, (strict, mild)) in ladder.into_iter().enumerate() {
+            let ended = call.rule(strict).play();
+            if ended.0.number == 0 {
+                assert_eq!(ended, call.rule(mild).play());
+                finished[at] += 1;
+            }
+        }
+        assert_eq!(call.rule(255).play(), call.rule(0).play());
+    }
+    assert!(finished.iter().all(|count| *count > 0));
+}
+
+#[test]
+fn a_larger_budget_alters_only_spent_runs() {
+    let mut compared = 0;
+    for seed in 0..20_000 {
+        let call = good_call(seed);
+        let ended = call.play();
+        if ended.0.number != 17 {
+            assert_eq!(ended, call.budget(call.budget + 7).play());
+            compared += 1;
+        }
+    }
+    assert!(compared > 0);
+}
