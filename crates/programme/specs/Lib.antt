@@ -1,3 +1,4 @@
 pub mod Syntax
 pub mod Code
 pub mod Sheet
+pub mod Reading

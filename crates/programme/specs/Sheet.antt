@@ -5,18 +5,13 @@ use mathlib.Core.List.{List, [], _∷_}
 use lib.ListN.{getD, length}
 use lib.Dec.{ltb, leb, eqb}
 use Rattle.lattice.specs.Tests.{_and_, every}
-use Rattle.lattice.specs.Order.{Label}
 use Rattle.store.specs.declared.Answer.{Answer}
-use Rattle.store.specs.Result.{Result, ok, _>>=_, require, refusedAs, unplaced}
+use Rattle.store.specs.Result.{Result, ok, refuse, _>>=_, require, refusedAs, unplaced}
 use Rattle.store.specs.Bytes.{numberAt, part}
 use Rattle.store.specs.Sheet.{sizesWidth}
+use Rattle.programme.specs.declared.Header.{Header}
 use Rattle.programme.specs.Syntax.{Cmd}
 use Rattle.programme.specs.Code.{Fault, readBlock}
-
--- what a block's entries in the sheet's arrays say, besides its length
-pub record Header : Type 0 where
-  pub region : Label
-  pub endorsed : Bool
 
 pub record Block : Type 0 where
   pub header : Header
@@ -39,10 +34,12 @@ cOf p = numberAt 2 p 1
 abbrev pub endorsedBit : ℕ
 endorsedBit = 0x80
 
-unfoldable pub headerAt : List ℕ → ℕ → Header
-headerAt p i =
-    let b = getD p (sizesWidth + i) 0 in
-    record { region = b % endorsedBit; endorsed = leb endorsedBit b }
+-- `Header` is the struct of src/lib.rt: what a block's entries in the sheet's arrays say, besides its length
+unfoldable pub headerOf : ℕ → Header
+headerOf b = record { region = b % endorsedBit; endorsed = leb endorsedBit b }
+
+abbrev pub headerAt : List ℕ → ℕ → Header
+headerAt p i = headerOf (getD p (sizesWidth + i) 0)
 
 abbrev pub lengthAt : List ℕ → ℕ → ℕ
 lengthAt p i = numberAt 2 p (sizesWidth + kOf p + 2 * i)
@@ -84,3 +81,8 @@ programmeSheet n m p =
     require (every (kOf p) (λ i. headerGood n (headerAt p i))) (unplaced 8) (
     require (eqb (startOf p (kOf p)) (cOf p)) (unplaced 6) (
     blocksFrom m p (kOf p) 0)))))
+
+-- what judging a programme sheet answers: number 0 where it is taken in
+unfoldable pub verdictOf : {A : Type 0} → Result Answer A → Answer
+verdictOf (ok a) = unplaced 0
+verdictOf (refuse e) = e

@@ -26,6 +26,10 @@ mutual
     nil : Cmds
     cons : Cmd → Cmds → Cmds
 
+-- the offset after a command's last byte
+unfoldable pub endOf : Cmd → ℕ
+endOf (cmd at end b) = end
+
 -- The side table of a block that was read: at each command's offset the offset after it; other entries as they were.
 unfoldable mutual
   pub marks : Cmd → List ℕ → List ℕ

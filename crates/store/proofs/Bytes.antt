@@ -44,11 +44,11 @@ number-read (suc width) x h =
     let k : x / 256 < 256 ^ width = div-lt-iff-lt-mul {k = 256} (omega arith) .1 (rw pow-suc at h) in
     omega (arith, shifted (x % 256) width (numberBytes width (x / 256)) 0, number-read width (x / 256) k)
 
-pub value-read : (v : Value) → v .payload < 256 ^ payloadWidth → valueAt (valueBytes v) 0 ≡ v
+pub value-read : (v : Value) → v .kind < 256 → v .payload < 256 ^ payloadWidth → valueAt (valueBytes v) 0 ≡ v
 unfolding valueAt valueBytes
-value-read v h =
-    ap (λ (p : ℕ). record { kind = v .kind; payload = p })
-    (shifted (v .kind) payloadWidth (numberBytes payloadWidth (v .payload)) 0 ∙ number-read payloadWidth (v .payload) h)
+value-read v k h =
+    ap₂ (λ (x p : ℕ). record { kind = x; payload = p }) (omega arith)
+    (shifted (v .kind % 256) payloadWidth (numberBytes payloadWidth (v .payload)) 0 ∙ number-read payloadWidth (v .payload) h)
 
 -- what a slot holds after it was filled, and after it was assigned to
 pub opened-value : (v : Value) → opened v .value ≡ v

@@ -1,2 +1,9 @@
 pub mod Result
+pub mod Pairs
 pub mod Bytes
+pub mod Numbers
+pub mod InTurn
+pub mod Fill
+pub mod Written
+pub mod Sheet
+pub mod Opening

@@ -37,6 +37,11 @@ module _ {E A : Type 0} where
   post-require P Q true e r h q = h refl
   post-require P Q false e r h q = q refl
 
+  -- what the value satisfies
+  pub post-at : (P : A → Type 0) (Q : E → Type 0) (r : Result E A) (a : A) → Post P Q r → r ≡ ok a → P a
+  unfolding Post
+  post-at P Q r a h e = rw e at h
+
   pub bind-ok : (r : Result E A) → (r >>= λ a. ok a) ≡ r
   unfolding _>>=_
   bind-ok (ok a) = refl
@@ -69,3 +74,19 @@ module _ {E A B C : Type 0} where
   unfolding _>>=_
   bind-assoc (ok a) k l = refl
   bind-assoc (refuse e) k l = refl
+
+-- What holds of every refusal
+
+abbrev pub Refuses : {E A : Type 0} → (E → Type 0) → Result E A → Type 0
+Refuses Q r = Post Any Q r
+
+module _ {E A : Type 0} (Q : E → Type 0) where
+  pub refuses-ok : (a : A) → Refuses Q (ok a)
+  refuses-ok a = post-ok Any Q a tt
+
+  pub refuses-require : (b : Bool) (e : E) (r : Result E A) → Q e → Refuses Q r → Refuses Q (require b e r)
+  refuses-require b e r q h = post-require Any Q b e r (λ _. h) (λ _. q)
+
+  pub refuses-bind : {B : Type 0} (r : Result E A) (k : A → Result E B)
+      → Refuses Q r → ((a : A) → Refuses Q (k a)) → Refuses Q (r >>= k)
+  refuses-bind r k h l = post-bind Any Any Q r k h (λ a _. l a)

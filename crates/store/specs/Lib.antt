@@ -2,3 +2,4 @@ pub mod Result
 pub mod Bytes
 pub mod Value
 pub mod Sheet
+pub mod Held

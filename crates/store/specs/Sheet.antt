@@ -1,6 +1,6 @@
 -- Document 01, "The store sheet", with refusals 1 to 5. Assumes nothing.
 use Prim.Native.Nat.{ℕ, zero, suc, _+_, _*_}
-use mathlib.Core.Bool.{Bool, true}
+use mathlib.Core.Bool.{Bool, true, false}
 use mathlib.Core.List.{List, [], _++_}
 use lib.ListN.{getD, length}
 use lib.Dec.{ltb, leb, eqb}
@@ -70,6 +70,11 @@ openingOf s =
 pub data Form : Type 0 where
   storeForm tableForm : Form
 
+-- whether values stand after the owners
+unfoldable pub formOf : Bool → Form
+formOf true = storeForm
+formOf false = tableForm
+
 -- the bytes of a slot's value in a sheet of this form
 unfoldable pub valueWidthIn : Form → ℕ
 valueWidthIn storeForm = valueWidth
@@ -91,13 +96,17 @@ unfoldable pub slotChecked : Form → List ℕ → ℕ → Result ℕ (Unit {0})
 slotChecked f s i = require (ltb (ownerAt s i) (nOf s)) 4 (require (valueGood f s i) 5 (ok tt))
 
 -- "store sizes present (1), in limits (2), total length (1); 3; then slot by slot 4 before 5"
+unfoldable pub bodyChecked : Form → List ℕ → Result ℕ (Unit {0})
+bodyChecked f s =
+    require (eqb (length s) (sheetLength f (nOf s) (mOf s))) 1 (
+    require (good (orderOf s)) 3 (
+    inTurn (mOf s) (slotChecked f s)))
+
 unfoldable pub sheetChecked : Form → List ℕ → Result ℕ (Unit {0})
 sheetChecked f s =
     require (leb sizesWidth (length s)) 1 (
     require (sizesAllowed (nOf s) (mOf s)) 2 (
-    require (eqb (length s) (sheetLength f (nOf s) (mOf s))) 1 (
-    require (good (orderOf s)) 3 (
-    inTurn (mOf s) (slotChecked f s)))))
+    bodyChecked f s))
 
 unfoldable pub storeSheet : List ℕ → Result ℕ Opening
 storeSheet s = sheetChecked storeForm s >>= λ _. ok (openingOf s)

@@ -1,5 +1,5 @@
 -- Values and slots, in sheets, code and output. Assumes nothing.
-use Prim.Native.Nat.{ℕ, suc, _+_}
+use Prim.Native.Nat.{ℕ, suc, _+_, _%_}
 use mathlib.Core.Bool.{Bool}
 use mathlib.Core.List.{List, _∷_}
 use lib.ListN.{getD}
@@ -57,7 +57,7 @@ unfoldable pub valueAt : List ℕ → ℕ → Value
 valueAt s at = record { kind = getD s at 0; payload = numberAt payloadWidth s (at + 1) }
 
 unfoldable pub valueBytes : Value → List ℕ
-valueBytes v = v .kind ∷ numberBytes payloadWidth (v .payload)
+valueBytes v = v .kind % 256 ∷ numberBytes payloadWidth (v .payload)
 
 -- what a slot holds
 pub record Slot : Type 0 where

@@ -1,0 +1,189 @@
+-- Demand 3: noninterference under full provenance, on bytes. Assumes nothing.
+use Prim.Native.Nat.{ℕ, _+_, _*_, _<_}
+use mathlib.Core.Path.{_≡_, refl, sym, ap, _∙_}
+use mathlib.Core.Bool.{true, false}
+use mathlib.Core.List.{List}
+use native.Mathlib.Omega.{arith}
+use native.Mathlib.Decide.{decLt}
+use lib.ListN.{getD, length, replicate, length-replicate}
+use borrow.Author.Tests.{eq-eqb}
+use Rattle.lattice.specs.Tests.{_and_, every}
+use Rattle.lattice.specs.Order.{Label, below}
+use Rattle.store.specs.declared.Answer.{Answer}
+use Rattle.store.specs.Result.{Result, ok, _>>=_, require, refusedAs}
+use Rattle.store.specs.Bytes.{Bytes, numberAt, part}
+use Rattle.store.specs.Value.{opened, emptySlot, slotWidth, slotBytes}
+use Rattle.store.specs.Sheet.{Tables, ownerOf, slotValueAt, storeSheet}
+use Rattle.store.proofs.Result.{Any, post-all, post-at}
+use Rattle.store.proofs.Pairs.{Post₂, Each, post₂-ok, post₂-join, post₂-equal, post₂-require, post₂-at, post₂-refused-as, post₂-bind}
+use Rattle.store.proofs.Opening.{Ordered, Opens, store-opens, values-one, slots-part}
+use Rattle.programme.specs.Syntax.{Cmd}
+use Rattle.programme.specs.Code.{readBlock}
+use Rattle.programme.specs.declared.Header.{Header}
+use Rattle.programme.specs.Sheet.{Block, kOf, headerAt, startOf, inBlock, blockAt, blocksFrom, programmeSheet}
+use Rattle.programme.proofs.Pairs.{programmes₂}
+use Rattle.calculus.specs.Rules.{fullProvenance, rulesOf}
+use Rattle.calculus.specs.Calculus.{Store}
+use Rattle.calculus.specs.Blocks.{runBlocks, start}
+use Rattle.calculus.proofs.Taint.{Tainted, Agree}
+use Rattle.calculus.proofs.Noninterference.{Alike, Opposite, alike, reached, blocks-isolated}
+use Rattle.calculus.specs.Run.{Finished, run, answerOf, outputOf, output}
+use Rattle.calculus.specs.Vectors.{none}
+use Rattle.calculus.specs.Isolation.{withinReach, StoresAgree, Replaced, unchanged, exchanged, Replacement, NoneEndorsed, FullRun, RunsAgree, Isolation}
+use Rattle.calculus.proofs.Finished.{run-finished}
+
+-- Blocks
+
+-- a block of the given header and code
+abbrev made : ℕ → ℕ → Header → List ℕ → Result Answer Block
+made m i h code = refusedAs (inBlock i) (readBlock m code) >>= λ c. ok (record { header = h; command = c })
+
+module _ (w : Tables) (a : Label) where
+  same-block : (m i : ℕ) (h h′ : Header) (c c′ : List ℕ) → h ≡ h′ → c ≡ c′ → h′ .endorsed ≡ false
+      → Post₂ (Opposite w a) (made m i h c) (made m i h′ c′)
+  same-block m i h h′ c c′ e e′ bare =
+      rw (e, e′) (
+      post₂-bind _ _ _ _ _ _ (post₂-equal Any _ _ refl (post-all _ _ _ (λ _. tt) (λ _. tt))) λ x y q.
+      post₂-ok _ _ _ _ (alike (ap (λ (z : Cmd). record { header = h′; command = z }) (q .0)) bare))
+
+  reached-block : (m i : ℕ) (h h′ : Header) (c c′ : List ℕ) → Tainted w a (h .region) → Tainted w a (h′ .region)
+      → Post₂ (Opposite w a) (made m i h c) (made m i h′ c′)
+  reached-block m i h h′ c c′ l l′ =
+      post₂-bind (λ _ _. Unit {0}) _ _ _ _ _
+      (post₂-join Any Any _ _ _ (post-all _ _ _ (λ _. tt) (λ _. tt)) (post-all _ _ _ (λ _. tt) (λ _. tt)) (λ _ _ _ _. tt)) λ x y _.
+      post₂-ok _ _ _ _ (reached l l′)
+
+  -- a replacement stays within reach
+  stays : (p q : List ℕ) (i : ℕ) → Replaced w a p q i → withinReach w a p i ≡ true → withinReach w a q i ≡ true
+  stays p q i (unchanged e c) l = ap (λ (h : Header). below (w .order) (h .region) a) e ∙ l
+  stays p q i (exchanged x y) l = y
+
+  opposite : (m : ℕ) (p q q′ : List ℕ) (i : ℕ) → headerAt p i .endorsed ≡ false → Replaced w a p q i → Replaced w a p q′ i
+      → Post₂ (Opposite w a) (blockAt m q i) (blockAt m q′ i)
+  unfolding blockAt
+  opposite m p q q′ i bare (unchanged e c) (unchanged e′ c′) =
+      same-block m i _ _ _ _ (e ∙ sym e′) (c ∙ sym c′) (ap (λ (h : Header). h .endorsed) e′ ∙ bare)
+  opposite m p q q′ i bare (unchanged e c) (exchanged x y) = reached-block m i _ _ _ _ (stays p q i (unchanged e c) x) y
+  opposite m p q q′ i bare (exchanged x y) r = reached-block m i _ _ _ _ y (stays p q′ i r x)
+
+  -- Two runs
+
+  record Ends (f f′ : Finished) : Type 0 where
+    pub slots : f .slots ≡ w .slots
+    pub slots′ : f′ .slots ≡ w .slots
+    pub agree : Alike w a (f .state) (f′ .state)
+
+  module _ (o : Ordered w) (in-a : a < w .order .n) (store store′ : List ℕ) (s s′ : Store)
+      (sheet : storeSheet store ≡ ok (record { tables = w; store = s })) (sheet′ : storeSheet store′ ≡ ok (record { tables = w; store = s′ }))
+      (m : Agree w a s s′) (p q q′ : List ℕ) (bare : NoneEndorsed p) (r : Replacement w a p q) (r′ : Replacement w a p q′) where
+    programmes-opposite : Post₂ (Each (Opposite w a)) (programmeSheet (w .order .n) (w .slots) q) (programmeSheet (w .order .n) (w .slots) q′)
+    programmes-opposite =
+        programmes₂ (Opposite w a) _ _ q q′ (r′ .count ∙ sym (r .count))
+        (λ i l. let k : i < kOf p = rw (r .count) at l in opposite _ p q q′ i (bare i k) (r .each i k) (r′ .each i k))
+
+    runs₂ : (rule rule′ budget budget′ room room′ : ℕ) → rulesOf rule ≡ ok fullProvenance → rulesOf rule′ ≡ ok fullProvenance
+        → Post₂ Ends (run store q rule budget room) (run store′ q′ rule′ budget′ room′)
+    unfolding run start _>>=_ refusedAs
+    runs₂ rule rule′ budget budget′ room room′ full full′ =
+        rw (full, full′) (post₂-require _ _ _ _ _ _ _ (
+        rw (sheet, sheet′) (
+        post₂-bind _ _ _ _ _ _ programmes-opposite λ bs cs k.
+        post₂-require _ _ _ _ _ _ _ (
+        post₂-bind _ _ _ _ _ _
+        (post₂-refused-as _ _ _ _ _ (blocks-isolated w a o in-a budget budget′ bs cs k 0 (start s) (start s′) m)) λ u v n.
+        post₂-ok _ _ _ _ (record { slots = refl; slots′ = refl; agree = n })))))
+
+-- Outputs
+
+-- slot i in the output of a run that finished
+output-part : (store programme old : List ℕ) (rule budget : ℕ) (f : Finished) → run store programme rule budget (length old) ≡ ok f
+    → (i : ℕ) → i < f .slots
+    → part (output store programme rule budget old) (slotWidth * i) slotWidth ≡ slotBytes (getD (f .state .store) i emptySlot)
+unfolding outputOf
+output-part store programme old rule budget f e i h =
+    let k : 0 + i ≡ i = omega arith in
+    ap (λ (r : Result Answer Finished). part (outputOf r old) (slotWidth * i) slotWidth) e ∙ slots-part (f .state .store) 0 (f .slots) i h
+    ∙ ap (λ (j : ℕ). slotBytes (getD (f .state .store) j emptySlot)) k
+
+opens : (store : List ℕ) (w : Tables) (s : Store) → storeSheet store ≡ ok (record { tables = w; store = s })
+    → Opens store (record { tables = w; store = s })
+opens store w s e = post-at _ _ _ _ (store-opens store) e
+
+-- The empty programme ends with the opening store, and its output shows that store's values.
+module _ (store : List ℕ) (w : Tables) (s : Store) (sheet : storeSheet store ≡ ok (record { tables = w; store = s })) where
+  ending : Finished
+  ending = record { blocks = 0; slots = w .slots; state = start s }
+
+  abbrev blank : List ℕ
+  blank = replicate (slotWidth * w .slots) 0
+
+  run-none : (room : ℕ) → room ≡ slotWidth * w .slots → run store none 3 0 room ≡ ok ending
+  unfolding run ending rulesOf _>>=_ require refusedAs programmeSheet numberAt every startOf blocksFrom runBlocks _and_
+  run-none room e = rw (sheet, eq-eqb room (slotWidth * w .slots) e)
+
+  blank-run : run store none 3 0 (length blank) ≡ ok ending
+  blank-run = run-none (length blank) (length-replicate _ _)
+
+  full-none : FullRun store none (output store none 3 0 blank)
+  unfolding rulesOf answerOf
+  full-none =
+      record {
+        rule = 3;
+        budget = 0;
+        old = blank;
+        full = refl;
+        finishes = ap (λ (r : Result Answer Finished). answerOf r .number) blank-run;
+        ends = refl;
+      }
+
+  none-part : (i : ℕ) → i < w .slots
+      → part (output store none 3 0 blank) (slotWidth * i) slotWidth ≡ slotBytes (opened (slotValueAt store i))
+  unfolding ending start
+  none-part i h = output-part store none blank 3 0 ending blank-run i h ∙ ap slotBytes (opens store w s sheet .inside i h)
+
+-- Both ways
+
+module _ (a : Label) (store store′ : List ℕ) (w : Tables) (s s′ : Store)
+    (sheet : storeSheet store ≡ ok (record { tables = w; store = s }))
+    (sheet′ : storeSheet store′ ≡ ok (record { tables = w; store = s′ })) where
+  -- opening stores agree past the last slot too
+  opening-agrees : StoresAgree w a s s′ → Agree w a s s′
+  opening-agrees h =
+      record {
+        sized = opens store w s sheet .sized ∙ sym (opens store′ w s′ sheet′ .sized);
+        held = λ i p. go i p (decLt i (w .slots));
+      }
+    where
+      go : (i : ℕ) → below (w .order) (ownerOf w i) a ≡ false → Dec (i < w .slots) → getD s i emptySlot ≡ getD s′ i emptySlot
+      go i p (yes l) = h i (record { inside = l; above = p })
+      go i p (no l) = opens store w s sheet .outside i (omega arith) ∙ sym (opens store′ w s′ sheet′ .outside i (omega arith))
+
+  forth : a < w .order .n → StoresAgree w a s s′ → RunsAgree w a store store′
+  forth in-a h p bare q q′ r r′ out out′ x x′ i b =
+      let f = run-finished store q (x .rule) (x .budget) (length (x .old)) (x .finishes) in
+      let f′ = run-finished store′ q′ (x′ .rule) (x′ .budget) (length (x′ .old)) (x′ .finishes) in
+      let e : Ends w a (f .0) (f′ .0) =
+      post₂-at _ _ _ _ _
+      (runs₂ w a (opens store w s sheet .ordered) in-a store store′ s s′ sheet sheet′ (opening-agrees h) p q q′ bare r r′
+      (x .rule) (x′ .rule) (x .budget) (x′ .budget) (length (x .old)) (length (x′ .old)) (x .full) (x′ .full)) (f .1) (f′ .1) in
+      ap (λ (l : List ℕ). part l (slotWidth * i) slotWidth) (x .ends)
+      ∙ output-part store q (x .old) (x .rule) (x .budget) (f .0) (f .1) i (rw (e .slots) (b .inside))
+      ∙ ap slotBytes (e .agree .held i (b .above))
+      ∙ sym (output-part store′ q′ (x′ .old) (x′ .rule) (x′ .budget) (f′ .0) (f′ .1) i (rw (e .slots′) (b .inside)))
+      ∙ sym (ap (λ (l : List ℕ). part l (slotWidth * i) slotWidth) (x′ .ends))
+
+  back : Bytes store → Bytes store′ → RunsAgree w a store store′ → StoresAgree w a s s′
+  unfolding numberAt
+  back d d′ h i b =
+      let self : Replacement w a none none = record { count = refl; each = λ i l. unchanged refl refl } in
+      let e =
+      h none (λ i l. absurd (omega arith)) none none self self _ _ (full-none store w s sheet) (full-none store′ w s′ sheet′) i b in
+      opens store w s sheet .inside i (b .inside)
+      ∙ ap opened (values-one store store′ _ _ d d′ (
+      sym (none-part store w s sheet i (b .inside)) ∙ e ∙ none-part store′ w s′ sheet′ i (b .inside)))
+      ∙ sym (opens store′ w s′ sheet′ .inside i (b .inside))
+
+-- Demand 3
+pub isolated : Isolation
+isolated a store store′ w s s′ in-a d d′ sheet sheet′ =
+    (forth a store store′ w s s′ sheet sheet′ in-a, back a store store′ w s s′ sheet sheet′ d d′)

@@ -1,0 +1,12 @@
+pub mod Steps
+pub mod While
+pub mod Blocks
+pub mod Refusals
+pub mod Pairs
+pub mod Taint
+pub mod Confined
+pub mod Noninterference
+pub mod Finished
+pub mod Isolation
+pub mod Endorsed
+pub mod Vectors

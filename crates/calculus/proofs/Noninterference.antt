@@ -1,0 +1,243 @@
+-- Noninterference under full provenance: two runs of blocks that are the same and not endorsed, or within the adversary's reach on
+-- both sides, take stores that agree on the protected slots to such stores. Assumes nothing.
+use Prim.Native.Nat.{ℕ, _+_, _-_}
+use mathlib.Core.Path.{_≡_, refl, sym, ap, _∙_}
+use mathlib.Core.Bool.{Bool, true, false}
+use mathlib.Core.List.{List}
+use lib.ListN.{getD}
+use Rattle.lattice.specs.Order.{Label, below, meet, top}
+use Rattle.lattice.proofs.Order.{top-lt}
+use Rattle.store.specs.Result.{Result, ok, refuse, _>>=_, require}
+use Rattle.store.specs.Value.{readView, is, viewed, Slot, emptySlot}
+use Rattle.store.specs.Sheet.{Tables, ownerOf}
+use Rattle.store.proofs.Result.{Post, Any, post-ok, post-all, post-require, post-bind}
+use Rattle.store.proofs.Pairs.{Post₂, Each, none, more, post₂-ok, post₂-map, post₂-join, post₂-equal, post₂-refused-as, post₂-bind}
+use Rattle.store.proofs.Opening.{Ordered}
+use Rattle.programme.specs.declared.Header.{Header}
+use Rattle.programme.specs.Sheet.{Block}
+use Rattle.programme.specs.Syntax.{Expr, literal, read, Cmd, cmd, Body, skip, assign, seq, if, while, Cmds, nil, cons}
+use Rattle.calculus.specs.Rules.{fullProvenance}
+use Rattle.calculus.specs.Calculus.{Store, Labelled, Judged, Write, State, Stop, inRegion, admit, fetch, eval, judge, authorised, reliable, permit, assignment, counted, written, performed, step, loop, exec, execBody, execs}
+use Rattle.calculus.specs.Blocks.{setting, runBlocks}
+use Rattle.calculus.proofs.Steps.{post-choose, post-tried, post-loop}
+use Rattle.calculus.proofs.Pairs.{post₂-step, post₂-choose, post₂-loop, agree, apart}
+use Rattle.calculus.proofs.Taint.{Tainted, Principal, Agree, agree-refl, agree-join, agree-both, agree-tainted, tainted-down, principal-meet, tainted-left, tainted-right}
+use Rattle.calculus.proofs.Confined.{under, reliable-at, eval-principal, judge-label, judge-principal, Harmless, assignment-shut, Like, reach-confined, branch-confined}
+
+-- two states whose stores agree on the protected slots
+abbrev pub Alike : Tables → Label → State → State → Type 0
+Alike w a s t = Agree w a (s .store) (t .store)
+
+-- two writes: the same one, or none to a protected slot
+pub data Writes (w : Tables) (a : Label) (x y : Write) : Type 0 where
+  same : x ≡ y → Writes w a x y
+  harmless : Harmless w a x → Harmless w a y → Writes w a x y
+
+module _ (w : Tables) (a : Label) where
+  agree-writes : (x y : Write) (s t : Store) → Writes w a x y → Agree w a s t → Agree w a (written x s) (written y t)
+  agree-writes x y s t (same e) m = rw e (agree-both w a y s t m)
+  agree-writes x y s t (harmless l k) m =
+      agree-join w a _ _ t (agree-tainted w a x s t l m) (agree-tainted w a y t t k (agree-refl w a t))
+
+  -- two answers that both agree with one store
+  join : (u : Store) (x y : Result Stop State) → Post (Like w a u) Any x → Post (Like w a u) Any y
+      → Post₂ (Alike w a) x y
+  join u x y p q = post₂-join _ _ _ _ _ p q (λ s t h k. agree-join w a _ _ u h k)
+
+module _ (w : Tables) (a : Label) (o : Ordered w) (in-a : Principal w a) (h : Header) where
+  -- An expression at a store, for every store that agrees with it and every budget: it answers the same, or its label is tainted.
+  data Reads (s : Store) (e : Expr) : Type 0 where
+    steady : (r : Result ℕ Labelled) → ((budget : ℕ) (t : Store) → Agree w a t s → eval (under w h budget) t e ≡ r) → Reads s e
+    tainted : ((budget : ℕ) (t : Store) → Agree w a t s → Post (λ x. Tainted w a (x .label)) Any (eval (under w h budget) t e)) → Reads s e
+
+  fetch-tainted : (budget : ℕ) (s : Store) (x : Labelled) → Tainted w a (meet (w .order) (x .label) (ownerOf w (viewed (x .value))))
+      → Post (λ y. Tainted w a (y .label)) Any (fetch (under w h budget) s x)
+  unfolding fetch admit
+  fetch-tainted budget s x l =
+      post-require _ _ _ _ _ (λ _. post-require _ _ _ _ _ (λ _. post-ok _ _ _ l) (λ _. tt)) (λ _. tt)
+
+  fetch-same : (b b′ : ℕ) (s t : Store) (x : Labelled)
+      → getD t (viewed (x .value)) emptySlot ≡ getD s (viewed (x .value)) emptySlot
+      → fetch (under w h b) t x ≡ fetch (under w h b′) s x
+  unfolding fetch admit inRegion
+  fetch-same b b′ s t x e =
+      ap (λ (y : Slot). require (is readView (x .value)) 13 (
+      admit (under w h b) (record { value = y .value; label = meet (w .order) (x .label) (ownerOf w (viewed (x .value))) }))) e
+
+  reads : (s : Store) (e : Expr) → Reads s e
+  unfolding eval _>>=_ admit inRegion Post
+  reads s (literal v) = steady (eval (under w h 0) s (literal v)) (λ budget t m. refl)
+  reads s (read e) = go (reads s e)
+    where
+      -- the view is x in every such store: its slot is protected or not
+      via : (x : Labelled) → ((budget : ℕ) (t : Store) → Agree w a t s → eval (under w h budget) t e ≡ ok x) → Principal w (x .label)
+          → (b : Bool) → below (w .order) (ownerOf w (viewed (x .value))) a ≡ b → Reads s (read e)
+      via x k p false q = steady (fetch (under w h 0) s x) (λ budget t m. rw (k budget t m) (fetch-same budget 0 s t x (m .held _ q)))
+      via x k p true q =
+          tainted (λ budget t m. rw (k budget t m) (fetch-tainted budget t x (tainted-right w a o in-a _ _ p q)))
+
+      at : (r : Result ℕ Labelled) → ((budget : ℕ) (t : Store) → Agree w a t s → eval (under w h budget) t e ≡ r)
+          → Post (λ x. Principal w (x .label)) Any r → Reads s (read e)
+      at (ok x) k p = via x k p _ refl
+      at (refuse n) k p = steady (refuse n) (λ budget t m. rw (k budget t m))
+
+      go : Reads s e → Reads s (read e)
+      go (tainted k) =
+          tainted (λ budget t m. post-bind (λ x. Tainted w a (x .label)) _ _ (eval (under w h budget) t e) _ (k budget t m)
+          (λ x l. fetch-tainted budget t x (tainted-left w a o in-a _ _ l (o .owners _))))
+      go (steady r k) = at r k (rw (k 0 s (agree-refl w a s)) at (eval-principal w a o in-a h 0 s e))
+
+  judge-same : (b b′ : ℕ) (s t : Store) (g : Expr) → eval (under w h b) s g ≡ eval (under w h b′) t g
+      → Post₂ (λ (i j : Judged). (i ≡ j) × Principal w (i .label)) (judge (under w h b) s g) (judge (under w h b′) t g)
+  unfolding judge
+  judge-same b b′ s t g e = post₂-equal _ _ _ (rw e) (judge-principal w a o in-a h b s g)
+
+  -- in a block that is not endorsed
+  module _ (bare : h .endorsed ≡ false) where
+    target-tainted : (budget : ℕ) (branch : Label) (s : Store) (t v : Expr)
+        → Post (λ x. Tainted w a (x .label)) Any (eval (under w h budget) s t)
+        → Post (Harmless w a) Any (assignment (under w h budget) branch s t v)
+    target-tainted budget branch s t v p =
+        assignment-shut w a o in-a h (Tainted w a) (Principal w) budget branch s t v p (eval-principal w a o in-a h budget s v)
+        (λ x y l _ i _ q. tainted-down w a o in-a _ _ (reliable-at w h bare budget i x y branch q .by-target) l)
+
+    value-tainted : (budget : ℕ) (branch : Label) (s : Store) (t v : Expr)
+        → Post (λ x. Tainted w a (x .label)) Any (eval (under w h budget) s v)
+        → Post (Harmless w a) Any (assignment (under w h budget) branch s t v)
+    value-tainted budget branch s t v p =
+        assignment-shut w a o in-a h (Principal w) (Tainted w a) budget branch s t v (eval-principal w a o in-a h budget s t) p
+        (λ x y _ l i _ q. tainted-down w a o in-a _ _ (reliable-at w h bare budget i x y branch q .by-value) l)
+
+    module _ (b b′ : ℕ) where
+      assignment-same : (branch : Label) (s u : Store) (t v : Expr)
+          → eval (under w h b) s t ≡ eval (under w h b′) u t → eval (under w h b) s v ≡ eval (under w h b′) u v
+          → assignment (under w h b) branch s t v ≡ assignment (under w h b′) branch u t v
+      unfolding assignment permit authorised reliable inRegion
+      assignment-same branch s u t v p q = rw (p, q)
+
+      assignment₂ : (branch : Label) (s u : Store) (t v : Expr) → Agree w a s u
+          → Post₂ (Writes w a) (assignment (under w h b) branch s t v) (assignment (under w h b′) branch u t v)
+      assignment₂ branch s u t v m = go (reads u t) (reads u v)
+        where
+          self : Agree w a u u
+          self = agree-refl w a u
+
+          go : Reads u t → Reads u v → Post₂ (Writes w a) (assignment (under w h b) branch s t v) (assignment (under w h b′) branch u t v)
+          go (tainted k) d =
+              post₂-join _ _ _ _ _ (target-tainted b branch s t v (k b s m)) (target-tainted b′ branch u t v (k b′ u self))
+              (λ x y p q. harmless p q)
+          go (steady r k) (tainted d) =
+              post₂-join _ _ _ _ _ (value-tainted b branch s t v (d b s m)) (value-tainted b′ branch u t v (d b′ u self))
+              (λ x y p q. harmless p q)
+          go (steady r k) (steady r′ d) =
+              post₂-map _ _ _ _
+              (post₂-equal Any _ _ (assignment-same branch s u t v (k b s m ∙ sym (k b′ u self)) (d b s m ∙ sym (d b′ u self)))
+              (post-all _ _ _ (λ _. tt) (λ _. tt)))
+              (λ x y q. same (q .0))
+
+    -- under a tainted guard nothing protected changes
+    if-tainted : (budget at : ℕ) (branch : Label) (g : Expr) (c d : Cmd) → Principal w branch → (u : Store) (s : State)
+        → Post (λ x. Tainted w a (x .label)) Any (eval (under w h budget) (s .store) g)
+        → Agree w a (s .store) u → Post (Like w a u) Any (execBody (under w h budget) (if g c d) at branch s)
+    unfolding execBody counted
+    if-tainted budget at branch g c d p u s e m =
+        post-bind _ _ _ _ _ (post-tried _ _ _ _ _ _ (judge-label w a o in-a h (Tainted w a) budget (s .store) g e) tt) λ j l.
+        post-choose _ _ _ _ _ _
+        (λ _. branch-confined w a o in-a h bare budget u c _ (tainted-right w a o in-a _ _ p l) (counted s) m)
+        (λ _. branch-confined w a o in-a h bare budget u d _ (tainted-right w a o in-a _ _ p l) (counted s) m)
+
+    while-tainted : (budget at : ℕ) (branch : Label) (g : Expr) (c : Cmd) → Principal w branch → (u : Store)
+        → ((t : Store) → Agree w a t u → Post (λ x. Tainted w a (x .label)) Any (eval (under w h budget) t g))
+        → (n : ℕ) (s : State) → Agree w a (s .store) u
+        → Post (Like w a u) Any
+        (loop (λ t. step (under w h budget) at t (judge (under w h budget) (t .store) g))
+        (λ l t. exec (under w h budget) c (meet (w .order) branch l) t) at n s)
+    unfolding counted
+    while-tainted budget at branch g c p u e n s m =
+        post-loop (Like w a u) Any (λ _ j. Tainted w a (j .label)) _ _ at (λ _ _. tt)
+        (λ t q. post-tried _ _ _ _ _ _ (judge-label w a o in-a h (Tainted w a) budget (t .store) g (e (t .store) q)) tt) (λ t j l q. q)
+        (λ _ j l t q. branch-confined w a o in-a h bare budget u c _ (tainted-right w a o in-a _ _ p l) t q) n s m
+
+    -- two runs of one command
+    module _ (b b′ : ℕ) where
+      abbrev Twice : Cmd → Type 0
+      Twice c =
+          (branch : Label) → Principal w branch → (s t : State) → Alike w a s t
+          → Post₂ (Alike w a) (exec (under w h b) c branch s) (exec (under w h b′) c branch t)
+
+      abbrev TwiceBody : Body → Type 0
+      TwiceBody c =
+          (at : ℕ) (branch : Label) → Principal w branch → (s t : State) → Alike w a s t
+          → Post₂ (Alike w a) (execBody (under w h b) c at branch s) (execBody (under w h b′) c at branch t)
+
+      if₂ : (g : Expr) (c d : Cmd) → Twice c → Twice d → TwiceBody (if g c d)
+      unfolding execBody counted
+      if₂ g c d ihc ihd at branch p s t m = go (reads (t .store) g)
+        where
+          go : Reads (t .store) g → Post₂ (Alike w a) (execBody (under w h b) (if g c d) at branch s) (execBody (under w h b′) (if g c d) at branch t)
+          go (tainted e) =
+              join w a (t .store) _ _ (if-tainted b at branch g c d p _ s (e b _ m) m)
+              (if-tainted b′ at branch g c d p _ t (e b′ _ (agree-refl w a _)) (agree-refl w a _))
+          go (steady r e) =
+              post₂-bind _ _ _ _ _ _ (post₂-step _ _ _ _ _ _ _ _ (judge-same b b′ _ _ g (e b _ m ∙ sym (e b′ _ (agree-refl w a _))))) λ j j′ q.
+              rw (← q .0) (
+              post₂-choose _ _ _ _ _ _ _ _
+              (ihc _ (principal-meet w a o in-a _ _ p (q .1)) (counted s) (counted t) m)
+              (ihd _ (principal-meet w a o in-a _ _ p (q .1)) (counted s) (counted t) m))
+
+      while₂ : (g : Expr) (c : Cmd) → Twice c → TwiceBody (while g c)
+      unfolding execBody counted
+      while₂ g c ih at branch p s t m =
+          post₂-loop (Alike w a) (λ j. Principal w (j .label)) at _ _ _ _ (λ s t q. q)
+          (λ j q s t m. ih _ (principal-meet w a o in-a _ _ p q) s t m)
+          (λ s t m. elim (reads (t .store) g) [
+            | steady r e ↦ agree (post₂-step _ _ _ _ _ _ _ _ (judge-same b b′ _ _ g (e b _ m ∙ sym (e b′ _ (agree-refl w a _)))))
+            | tainted e ↦ apart (λ n n′.
+                join w a (t .store) _ _ (while-tainted b at branch g c p _ (e b) n s m)
+                (while-tainted b′ at branch g c p _ (e b′) n′ t (agree-refl w a _)))
+          ])
+          (b - s .steps) (b′ - t .steps) s t m
+
+      mutual
+        unfolding exec execBody execs performed counted
+
+        twice : (c : Cmd) → Twice c
+        twice (cmd at end c) branch p s t m = twice-body c at branch p s t m
+
+        twice-body : (c : Body) → TwiceBody c
+        twice-body skip at branch p s t m = post₂-ok _ _ _ _ m
+        twice-body (assign x v) at branch p s t m =
+            post₂-bind _ _ _ _ _ _ (post₂-step _ _ _ _ _ _ _ _ (assignment₂ b b′ branch (s .store) (t .store) x v m))
+            (λ y y′ q. post₂-ok _ _ _ _ (agree-writes w a y y′ _ _ q m))
+        twice-body (seq cs) at branch p s t m = twice-all cs branch p s t m
+        twice-body (if g c d) at branch p s t m =
+            if₂ g c d (λ l p s t m. twice c l p s t m) (λ l p s t m. twice d l p s t m) at branch p s t m
+        twice-body (while g c) at branch p s t m = while₂ g c (λ l p s t m. twice c l p s t m) at branch p s t m
+
+        twice-all : (cs : Cmds) (branch : Label) → Principal w branch → (s t : State) → Alike w a s t
+            → Post₂ (Alike w a) (execs (under w h b) cs branch s) (execs (under w h b′) cs branch t)
+        twice-all nil branch p s t m = post₂-ok _ _ _ _ m
+        twice-all (cons c cs) branch p s t m = post₂-bind _ _ _ _ _ _ (twice c branch p s t m) (λ x y q. twice-all cs branch p x y q)
+
+-- two blocks in the same place of two programmes
+pub data Opposite (w : Tables) (a : Label) (b c : Block) : Type 0 where
+  alike : b ≡ c → b .header .endorsed ≡ false → Opposite w a b c
+  reached : Tainted w a (b .header .region) → Tainted w a (c .header .region) → Opposite w a b c
+
+module _ (w : Tables) (a : Label) (o : Ordered w) (in-a : Principal w a) (budget budget′ : ℕ) where
+  block₂ : (b c : Block) → Opposite w a b c → (s t : State) → Alike w a s t
+      → Post₂ (Alike w a) (exec (setting w fullProvenance budget b) (b .command) (top (w .order)) s)
+      (exec (setting w fullProvenance budget′ c) (c .command) (top (w .order)) t)
+  block₂ b c (alike e bare) s t m =
+      rw (← e) (twice w a o in-a (b .header) bare budget budget′ (b .command) _ (top-lt (w .order) (o .table)) s t m)
+  block₂ b c (reached l k) s t m =
+      join w a (t .store) _ _ (reach-confined w a o in-a (b .header) l budget _ (b .command) _ s m)
+      (reach-confined w a o in-a (c .header) k budget′ _ (c .command) _ t (agree-refl w a _))
+
+  -- the law on lists of blocks, for any two budgets
+  pub blocks-isolated : (bs cs : List Block) → Each (Opposite w a) bs cs → (i : ℕ) (s t : State) → Alike w a s t
+      → Post₂ (Alike w a) (runBlocks w fullProvenance budget i bs s) (runBlocks w fullProvenance budget′ i cs t)
+  unfolding runBlocks
+  blocks-isolated bs cs none i s t m = post₂-ok _ _ _ _ m
+  blocks-isolated bs cs (more {a = b} {b = c} {xs = bs′} {ys = cs′} r rs) i s t m =
+      post₂-bind _ _ _ _ _ _ (post₂-refused-as _ _ _ _ _ (block₂ b c r s t m)) (λ u v q. blocks-isolated bs′ cs′ rs (i + 1) u v q)

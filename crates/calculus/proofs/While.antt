@@ -1,0 +1,58 @@
+-- The law of while: its guard, then its body and itself again. No fuel is seen. Assumes nothing.
+use Prim.Native.Nat.{ℕ, zero, suc, _+_, _-_, _≤_}
+use mathlib.Core.Path.{_≡_, refl, sym, _∙_}
+use mathlib.Core.Bool.{Bool, true, false}
+use native.Mathlib.Omega.{arith}
+use borrow.Author.Tests.{eq-eqb}
+use Rattle.lattice.specs.Order.{Label, meet}
+use Rattle.store.specs.Result.{Result, ok, _>>=_, require, refusedAs}
+use Rattle.programme.specs.Syntax.{Expr, Cmd, cmd, while}
+use Rattle.store.proofs.Result.{bind-same}
+use Rattle.calculus.specs.Calculus.{Setting, State, Stop, counted, step, judge, choose, loop, exec, execBody}
+use Rattle.calculus.proofs.Steps.{Counted, made, exec-counts}
+
+choose-same : {A B : Type 0} (b : Bool) (f f′ g : A → B) (a : A) → f a ≡ f′ a → choose b f g a ≡ choose b f′ g a
+unfolding choose
+choose-same true f f′ g a p = p
+choose-same false f f′ g a p = refl
+
+module _ (w : Setting) (g : Expr) (c : Cmd) (at : ℕ) (branch : Label) where
+  -- one round, and then k
+  abbrev pub once : (State → Result Stop State) → State → Result Stop State
+  once k s =
+      step w at s (judge w (s .store) g) >>= λ j.
+      choose (j .passes) (λ t. exec w c (meet (w .tables .order) branch (j .label)) t >>= k) ok (counted s)
+
+  abbrev rounds : ℕ → State → Result Stop State
+  rounds n s = loop (λ t. step w at t (judge w (t .store) g)) (λ l t. exec w c (meet (w .tables .order) branch l) t) at n s
+
+  -- what follows a round matters only at states that it can end in
+  once-same : (k k′ : State → Result Stop State) (s : State) → s .steps ≤ w .budget
+      → ((u : State) → Counted (w .budget) (s .steps + 1) u → k u ≡ k′ u) → once k s ≡ once k′ s
+  unfolding counted
+  once-same k k′ s h same =
+      bind-same _ _ _ _ _ (made w (s .steps) at s _ (record { grown = omega arith; kept = h })) λ j q.
+      choose-same (j .passes) _ _ _ _
+      (bind-same _ _ _ _ _ (exec-counts w (s .steps + 1) c _ (counted s) (record { grown = omega arith; kept = omega arith })) same)
+
+  spent : (n : ℕ) (s : State) → s .steps ≡ w .budget → rounds (suc n) s ≡ rounds zero s
+  unfolding loop step require refusedAs _>>=_
+  spent n s e = rw (eq-eqb (s .steps) (w .budget) e)
+
+  -- any fuel that covers the steps left is as good as any other
+  enough : (n m : ℕ) (s : State) → s .steps ≤ w .budget → w .budget ≤ n + s .steps → w .budget ≤ m + s .steps → rounds n s ≡ rounds m s
+  unfolding loop
+  enough zero zero s k h h′ = refl
+  enough zero (suc m) s k h h′ = sym (spent m s (omega arith))
+  enough (suc n) zero s k h h′ = spent n s (omega arith)
+  enough (suc n) (suc m) s k h h′ =
+      once-same (rounds n) (rounds m) s k (λ u q. enough n m u (q .kept) (omega (arith, q .grown)) (omega (arith, q .grown)))
+
+  -- a while command is one round of it, and then the same command again
+  pub while-law : (end : ℕ) (s : State) → s .steps ≤ w .budget
+      → exec w (cmd at end (while g c)) branch s ≡ once (exec w (cmd at end (while g c)) branch) s
+  unfolding exec execBody loop
+  while-law end s h =
+      enough (w .budget - s .steps) (suc (w .budget)) s h (omega arith) (omega arith)
+      ∙ once-same (rounds (w .budget)) (λ u. rounds (w .budget - u .steps) u) s h
+      (λ u q. enough (w .budget) (w .budget - u .steps) u (q .kept) (omega arith) (omega (arith, q .kept)))

@@ -1,0 +1,76 @@
+-- Document 01, "What demand 3 compares". The adversary is its stranger. Assumes nothing.
+use Prim.Native.Nat.{ℕ, _*_, _<_}
+use mathlib.Core.Path.{_≡_}
+use mathlib.Core.Logic.{_↔_}
+use mathlib.Core.Bool.{Bool, true, false}
+use mathlib.Core.List.{List}
+use lib.ListN.{getD, length}
+use Rattle.lattice.specs.Order.{Label, below}
+use Rattle.store.specs.Result.{ok}
+use Rattle.store.specs.Bytes.{Bytes, part}
+use Rattle.store.specs.Value.{slotWidth, emptySlot}
+use Rattle.store.specs.Sheet.{Tables, ownerOf, storeSheet}
+use Rattle.programme.specs.Sheet.{kOf, headerAt, codeOf}
+use Rattle.calculus.specs.Rules.{fullProvenance, rulesOf}
+use Rattle.calculus.specs.Calculus.{Store}
+use Rattle.calculus.specs.Run.{answer, output}
+
+-- "A slot is protected from it .. when its owner does not stand at or below it."
+pub record Protected (w : Tables) (adversary : Label) (i : ℕ) : Type 0 where
+  pub inside : i < w .slots
+  pub above : below (w .order) (ownerOf w i) adversary ≡ false
+
+-- "A block is within the stranger's reach when its region stands at or below the stranger."
+abbrev pub withinReach : Tables → Label → List ℕ → ℕ → Bool
+withinReach w adversary p i = below (w .order) (headerAt p i .region) adversary
+
+-- "Two slots are equal when kind and payload are": in stores, and in outputs
+abbrev pub StoresAgree : Tables → Label → Store → Store → Type 0
+StoresAgree w adversary s s′ = (i : ℕ) → Protected w adversary i → getD s i emptySlot ≡ getD s′ i emptySlot
+
+abbrev pub OutputsAgree : Tables → Label → List ℕ → List ℕ → Type 0
+OutputsAgree w adversary out out′ =
+    (i : ℕ) → Protected w adversary i → part out (slotWidth * i) slotWidth ≡ part out′ (slotWidth * i) slotWidth
+
+-- "leaves each one outside the stranger's reach unchanged; in the place of each one within reach stands any block within reach,
+-- whatever its code, endorsed or not, or the same again"
+pub data Replaced (w : Tables) (adversary : Label) (p q : List ℕ) (i : ℕ) : Type 0 where
+  unchanged : headerAt q i ≡ headerAt p i → codeOf q i ≡ codeOf p i → Replaced w adversary p q i
+  exchanged : withinReach w adversary p i ≡ true → withinReach w adversary q i ≡ true → Replaced w adversary p q i
+
+-- "A replacement keeps the number and order of the blocks"
+pub record Replacement (w : Tables) (adversary : Label) (p q : List ℕ) : Type 0 where
+  pub count : kOf q ≡ kOf p
+  pub each : (i : ℕ) → i < kOf p → Replaced w adversary p q i
+
+-- "every programme with no endorsed block"
+abbrev pub NoneEndorsed : List ℕ → Type 0
+NoneEndorsed p = (i : ℕ) → i < kOf p → headerAt p i .endorsed ≡ false
+
+-- one run under full provenance that finishes: "A run whose sheet or arguments are refused doesn't finish."
+pub record FullRun (store programme out : List ℕ) : Type 0 where
+  pub rule : ℕ
+  pub budget : ℕ
+  pub old : List ℕ
+  pub full : rulesOf rule ≡ ok fullProvenance
+  pub finishes : answer store programme rule budget (length old) .number ≡ 0
+  pub ends : out ≡ output store programme rule budget old
+
+-- whatever an adversary sends, whenever both runs finish, the two outputs agree
+abbrev pub RunsAgree : Tables → Label → List ℕ → List ℕ → Type 0
+RunsAgree w adversary store store′ =
+    (p : List ℕ) → NoneEndorsed p
+    → (q q′ : List ℕ) → Replacement w adversary p q → Replacement w adversary p q′
+    → (out out′ : List ℕ) → FullRun store q out → FullRun store′ q′ out′ → OutputsAgree w adversary out out′
+
+-- Demand 3: "for any principal as the stranger and any two good opening stores under one order table and one owner array: the stores
+-- are equal in every slot that the stranger may not write exactly when .. the two full-provenance runs .., if both finish .., end
+-- equal in every such slot."
+abbrev pub Isolation : Type 0
+Isolation =
+    (adversary : Label) (store store′ : List ℕ) (w : Tables) (s s′ : Store)
+    → adversary < w .order .n
+    → Bytes store → Bytes store′
+    → storeSheet store ≡ ok (record { tables = w; store = s })
+    → storeSheet store′ ≡ ok (record { tables = w; store = s′ })
+    → StoresAgree w adversary s s′ ↔ RunsAgree w adversary store store′

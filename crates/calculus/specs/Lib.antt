@@ -1,0 +1,6 @@
+pub mod Rules
+pub mod Calculus
+pub mod Blocks
+pub mod Run
+pub mod Isolation
+pub mod Vectors

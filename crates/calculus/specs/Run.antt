@@ -1,0 +1,49 @@
+-- The answer and the output for every store sheet, programme sheet, rule number, budget and output slice, refused ones too.
+-- Assumes nothing.
+use Prim.Native.Nat.{ℕ, _*_}
+use mathlib.Core.List.{List}
+use lib.ListN.{length}
+use lib.Dec.{leb, eqb}
+use Rattle.store.specs.declared.Answer.{Answer}
+use Rattle.store.specs.Result.{Result, ok, refuse, _>>=_, require, refusedAs, unplaced}
+use Rattle.store.specs.Value.{slotWidth}
+use Rattle.store.specs.Sheet.{storeSheet, slotsBytes}
+use Rattle.programme.specs.Sheet.{programmeSheet}
+use Rattle.calculus.specs.Rules.{rulesOf}
+use Rattle.calculus.specs.Calculus.{State}
+use Rattle.calculus.specs.Blocks.{haltAnswer, runBlocks, mostBudget, start}
+
+-- a run that finished: how many blocks it played, how many slots it writes out, and its end
+pub record Finished : Type 0 where
+  pub blocks : ℕ
+  pub slots : ℕ
+  pub state : State
+
+-- "Order: 11; store sizes .. 9 or 10 in byte order; 12; run."
+unfoldable pub run : List ℕ → List ℕ → ℕ → ℕ → ℕ → Result Answer Finished
+run store programme rule budget room =
+    refusedAs unplaced (rulesOf rule) >>= λ rules.
+    require (leb budget mostBudget) (unplaced 11) (
+    refusedAs unplaced (storeSheet store) >>= λ o.
+    programmeSheet (o .tables .order .n) (o .tables .slots) programme >>= λ blocks.
+    require (eqb room (slotWidth * o .tables .slots)) (unplaced 12) (
+    refusedAs haltAnswer (runBlocks (o .tables) rules budget 0 blocks (start (o .store))) >>= λ s.
+    ok (record { blocks = length blocks; slots = o .tables .slots; state = s })))
+
+-- "Finished is 0, block k, offset 0."
+unfoldable pub answerOf : Result Answer Finished → Answer
+answerOf (ok f) = record { number = 0; block = f .blocks; offset = 0; steps = f .state .steps }
+answerOf (refuse a) = a
+
+-- the end store's first m slots; "Every refusal leaves the output untouched."
+unfoldable pub outputOf : Result Answer Finished → List ℕ → List ℕ
+outputOf (ok f) old = slotsBytes (f .state .store) 0 (f .slots)
+outputOf (refuse a) old = old
+
+-- Demands 1 and 2: what a run answers ..
+abbrev pub answer : List ℕ → List ℕ → ℕ → ℕ → ℕ → Answer
+answer store programme rule budget room = answerOf (run store programme rule budget room)
+
+-- .. and what its output slice then holds, where it held `old` before
+abbrev pub output : List ℕ → List ℕ → ℕ → ℕ → List ℕ → List ℕ
+output store programme rule budget old = outputOf (run store programme rule budget (length old)) old

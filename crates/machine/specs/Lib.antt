@@ -1,3 +1,0 @@
-pub mod Rules
-pub mod Calculus
-pub mod Blocks

@@ -1,1 +1,0 @@
-// The calculus: what a block does. Definitions in specs/, laws in proofs/.
