@@ -7,9 +7,9 @@ use lib.Dec.{leb, eqb}
 use Rattle.store.specs.declared.Answer.{Answer}
 use Rattle.store.specs.Result.{Result, ok, refuse, _>>=_, require, refusedAs, unplaced}
 use Rattle.store.specs.Value.{slotWidth}
-use Rattle.store.specs.Sheet.{storeSheet, slotsBytes}
+use Rattle.store.specs.Sheet.{Opening, storeSheet, slotsBytes}
 use Rattle.programme.specs.Sheet.{programmeSheet}
-use Rattle.calculus.specs.Rules.{rulesOf}
+use Rattle.calculus.specs.Rules.{RuleSet, rulesOf}
 use Rattle.calculus.specs.Calculus.{State}
 use Rattle.calculus.specs.Blocks.{haltAnswer, runBlocks, mostBudget, start}
 
@@ -19,16 +19,20 @@ pub record Finished : Type 0 where
   pub slots : ℕ
   pub state : State
 
--- "Order: 11; store sizes .. 9 or 10 in byte order; 12; run."
+-- an opened store: ".. programme sizes .. 9 or 10 in byte order; 12; run"
+unfoldable pub runOpened : RuleSet → ℕ → Opening → List ℕ → ℕ → Result Answer Finished
+runOpened rules budget o programme room =
+    programmeSheet (o .tables .order .n) (o .tables .slots) programme >>= λ blocks.
+    require (eqb room (slotWidth * o .tables .slots)) (unplaced 12) (
+    refusedAs haltAnswer (runBlocks (o .tables) rules budget 0 blocks (start (o .store))) >>= λ s.
+    ok (record { blocks = length blocks; slots = o .tables .slots; state = s }))
+
+-- "Order: 11; store sizes present (1), in limits (2), total length (1); 3; then slot by slot 4 before 5; programme .."
 unfoldable pub run : List ℕ → List ℕ → ℕ → ℕ → ℕ → Result Answer Finished
 run store programme rule budget room =
     refusedAs unplaced (rulesOf rule) >>= λ rules.
     require (leb budget mostBudget) (unplaced 11) (
-    refusedAs unplaced (storeSheet store) >>= λ o.
-    programmeSheet (o .tables .order .n) (o .tables .slots) programme >>= λ blocks.
-    require (eqb room (slotWidth * o .tables .slots)) (unplaced 12) (
-    refusedAs haltAnswer (runBlocks (o .tables) rules budget 0 blocks (start (o .store))) >>= λ s.
-    ok (record { blocks = length blocks; slots = o .tables .slots; state = s })))
+    refusedAs unplaced (storeSheet store) >>= λ o. runOpened rules budget o programme room)
 
 -- "Finished is 0, block k, offset 0."
 unfoldable pub answerOf : Result Answer Finished → Answer

@@ -1,7 +1,7 @@
 // Order tables. Definitions in specs/, laws in proofs/.
 ghost use mathlib.Core.Path.{_≡_};
-ghost use Prim.Native.Nat.{_<_, _≤_, _^_, _-_};
-ghost use Rattle.lattice.specs.Order.{bit, good};
+ghost use Prim.Native.Nat.{_<_, _≤_, _^_, _-_, min};
+ghost use Rattle.lattice.specs.Order.{mostPrincipals, bit, good};
 ghost use Rattle.lattice.specs.Masks.{hasMask, pairOk, meetOk, rowOk, rowsOk, lineOk, tableOk};
 
 // An order table: n principals, numbered from 0, and a mask for each. Masks from n on are 0.
@@ -141,5 +141,16 @@ pub fn table_good(t: Table) -> bool
         masks_ok(&masks, n)
     } else {
         false
+    }
+}
+
+// The mask of the top of a good table of n principals: their bits.
+pub fn top_mask(n: usize) -> u32
+    ensures { λ r. ⌜ r ≡ 2 ^ min mostPrincipals n - 1 ⌝ }
+{
+    if n < Table::MOST {
+        ones(n)
+    } else {
+        ones(Table::MOST)
     }
 }

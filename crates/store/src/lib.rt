@@ -14,8 +14,8 @@ use lattice::Table;
 // What a call answers: 0 or the number of a refusal, and its place.
 pub struct Answer {
     pub number: u32,
-    pub block: u32,
-    pub offset: u32,
+    pub block: usize,
+    pub offset: usize,
     pub steps: u32,
 }
 
