@@ -21,7 +21,7 @@ use Rattle.programme.specs.Sheet.{headerOf, headerAt, startOf, headerGood, bloc
 use Rattle.calculus.specs.Rules.{rulesOf, judgesViews, judgesRegion, labelsJudged, allAbove}
 use Rattle.calculus.specs.Calculus.{Store, inRegion, admit, fetch, eval, authorised, reliable, permit, assignment, counted, written, performed, step, exec, execBody}
 use Rattle.calculus.specs.Blocks.{runBlocks, start}
-use Rattle.calculus.specs.Run.{runOpened, run, answerOf, outputOf}
+use Rattle.calculus.specs.Run.{runProgramme, runOpened, run, answerOf, outputOf}
 use Rattle.calculus.specs.Vectors.{blank, int, writes, twoSlots, assign, read, one}
 use Rattle.calculus.specs.Isolation.{withinReach, StoresAgree, OutputsAgree, unchanged, Replacement, FullRun}
 
@@ -68,7 +68,7 @@ pub record Example : Type 0 where
   pub right-run : FullRun right leaking (int 6 ++ int 6)
 
 pub example : Example
-unfolding runOpened run answerOf outputOf
+unfolding runProgramme runOpened run answerOf outputOf
     _and_ _or_ _implies_ every some find bit inRange reflexive antisymmetric transitive isMeet hasMeets isTop hasTop good meet top
     _>>=_ require refusedAs inTurn numberAt numberBytes table filled wellFormed valueAt valueBytes opened assigned emptySlot slotBytes
     orderOf tablesOf openingOf valueWidthIn valueGood sizesAllowed slotChecked bodyChecked sheetChecked storeSheet slotsBytes

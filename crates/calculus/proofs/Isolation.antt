@@ -27,7 +27,7 @@ use Rattle.calculus.specs.Calculus.{Store}
 use Rattle.calculus.specs.Blocks.{runBlocks, start}
 use Rattle.calculus.proofs.Taint.{Tainted, Agree}
 use Rattle.calculus.proofs.Noninterference.{Alike, Opposite, alike, reached, blocks-isolated}
-use Rattle.calculus.specs.Run.{Finished, runOpened, run, answerOf, outputOf, output}
+use Rattle.calculus.specs.Run.{Finished, runProgramme, runOpened, run, answerOf, outputOf, output}
 use Rattle.calculus.specs.Vectors.{none}
 use Rattle.calculus.specs.Isolation.{withinReach, StoresAgree, Replaced, unchanged, exchanged, Replacement, NoneEndorsed, FullRun, RunsAgree, Isolation}
 use Rattle.calculus.proofs.Finished.{run-finished}
@@ -83,7 +83,7 @@ module _ (w : Tables) (a : Label) where
 
     runs₂ : (rule rule′ budget budget′ room room′ : ℕ) → rulesOf rule ≡ ok fullProvenance → rulesOf rule′ ≡ ok fullProvenance
         → Post₂ Ends (run store q rule budget room) (run store′ q′ rule′ budget′ room′)
-    unfolding runOpened run start _>>=_ refusedAs
+    unfolding runProgramme runOpened run start _>>=_ refusedAs
     runs₂ rule rule′ budget budget′ room room′ full full′ =
         rw (full, full′) (post₂-require _ _ _ _ _ _ _ (
         rw (sheet, sheet′) (
@@ -118,7 +118,7 @@ module _ (store : List ℕ) (w : Tables) (s : Store) (sheet : storeSheet store �
   blank = replicate (slotWidth * w .slots) 0
 
   run-none : (room : ℕ) → room ≡ slotWidth * w .slots → run store none 3 0 room ≡ ok ending
-  unfolding runOpened run ending rulesOf _>>=_ require refusedAs programmeSheet numberAt every startOf blocksFrom runBlocks _and_
+  unfolding runProgramme runOpened run ending rulesOf _>>=_ require refusedAs programmeSheet numberAt every startOf blocksFrom runBlocks _and_
   run-none room e = rw (sheet, eq-eqb room (slotWidth * w .slots) e)
 
   blank-run : run store none 3 0 (length blank) ≡ ok ending

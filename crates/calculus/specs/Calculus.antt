@@ -38,8 +38,11 @@ pub record Labelled : Type 0 where
   pub label : Label
 
 -- Rule 1: "each literal and each read result, intermediate ones too, that is a write view must have an owner at or below the region."
+abbrev pub mayHold : Setting → Value → Bool
+mayHold w v = judgesViews (w .rules) and isWriteView v implies inRegion w (viewed v)
+
 unfoldable pub admit : Setting → Labelled → Result ℕ Labelled
-admit w x = require (judgesViews (w .rules) and isWriteView (x .value) implies inRegion w (viewed (x .value))) 15 (ok x)
+admit w x = require (mayHold w (x .value)) 15 (ok x)
 
 -- "a read needs a read view and gives that slot's present value. Its label: .. the meet of the view's label and the slot's owner."
 unfoldable pub fetch : Setting → Store → Labelled → Result ℕ Labelled

@@ -8,7 +8,7 @@ use Rattle.store.specs.declared.Answer.{Answer}
 use Rattle.store.specs.Result.{Result, ok, refuse, _>>=_, require, refusedAs, unplaced}
 use Rattle.store.specs.Value.{slotWidth}
 use Rattle.store.specs.Sheet.{Opening, storeSheet, slotsBytes}
-use Rattle.programme.specs.Sheet.{programmeSheet}
+use Rattle.programme.specs.Sheet.{Block, programmeSheet}
 use Rattle.calculus.specs.Rules.{RuleSet, rulesOf}
 use Rattle.calculus.specs.Calculus.{State}
 use Rattle.calculus.specs.Blocks.{haltAnswer, runBlocks, mostBudget, start}
@@ -19,13 +19,17 @@ pub record Finished : Type 0 where
   pub slots : ℕ
   pub state : State
 
--- an opened store: ".. programme sizes .. 9 or 10 in byte order; 12; run"
+-- the blocks of a programme that was taken in, over an opened store
+unfoldable pub runProgramme : RuleSet → ℕ → Opening → List Block → Result Answer Finished
+runProgramme rules budget o blocks =
+    refusedAs haltAnswer (runBlocks (o .tables) rules budget 0 blocks (start (o .store))) >>= λ s.
+    ok (record { blocks = length blocks; slots = o .tables .slots; state = s })
+
+-- a programme sheet over an opened store: ".. programme sizes (6, 7), length (6) .. 9 or 10 in byte order; 12; run"
 unfoldable pub runOpened : RuleSet → ℕ → Opening → List ℕ → ℕ → Result Answer Finished
 runOpened rules budget o programme room =
     programmeSheet (o .tables .order .n) (o .tables .slots) programme >>= λ blocks.
-    require (eqb room (slotWidth * o .tables .slots)) (unplaced 12) (
-    refusedAs haltAnswer (runBlocks (o .tables) rules budget 0 blocks (start (o .store))) >>= λ s.
-    ok (record { blocks = length blocks; slots = o .tables .slots; state = s }))
+    require (eqb room (slotWidth * o .tables .slots)) (unplaced 12) (runProgramme rules budget o blocks)
 
 -- "Order: 11; store sizes present (1), in limits (2), total length (1); 3; then slot by slot 4 before 5; programme .."
 unfoldable pub run : List ℕ → List ℕ → ℕ → ℕ → ℕ → Result Answer Finished

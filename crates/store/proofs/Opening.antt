@@ -80,6 +80,8 @@ pub record Ordered (w : Tables) : Type 0 where
 -- what an opening is where its sheet s is not refused
 pub record Opens (s : List ℕ) (o : Opening) : Type 0 where
   pub ordered : Ordered (o .tables)
+  pub past : (i : ℕ) → mostSlots ≤ i → ownerOf (o .tables) i ≡ 0
+  pub small : o .tables .slots ≤ mostSlots
   pub sized : length (o .store) ≡ mostSlots
   pub inside : (i : ℕ) → i < o .tables .slots → getD (o .store) i emptySlot ≡ opened (slotValueAt s i)
   pub outside : (i : ℕ) → o .tables .slots ≤ i → getD (o .store) i emptySlot ≡ emptySlot
@@ -97,6 +99,8 @@ unfolding openingOf tablesOf orderOf
 opens s c =
     record {
       ordered = record { table = c .table; owners = owner-lt s c };
+      past = λ i h. filled-past mostSlots (mOf s) (ownerAt s) 0 i (omega (arith, c .small));
+      small = c .small;
       sized = length-filled mostSlots _ _ (mOf s);
       inside = λ i h. filled-at mostSlots _ _ (mOf s) _ i (c .small) h;
       outside = λ i h. filled-past mostSlots (mOf s) _ _ i h;

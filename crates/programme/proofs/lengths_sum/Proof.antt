@@ -1,0 +1,49 @@
+use Prim.Native.Nat.{ℕ, _≤_, _-_, _*_}
+use mathlib.Core.Path.{_≡_, ap, _∙_}
+use denote.Ref.{now}
+use native.Mathlib.Omega.{arith}
+use Rattle.programme.specs.Sheet.{startOf}
+use Rattle.programme.proofs.Blocks.{start-none, start-more}
+use Rattle.programme.proofs.lengths_sum.Statement.{statement}
+use Rattle.programme.proofs.lengths_sum.Tie as tie
+
+abbrev Inv-loop : tie.InvT-loop
+Inv-loop sheet k sum₀ i₀ sum i = (i ≤ k) × (sum ≡ startOf sheet i) × (sum ≤ 65536 * i)
+
+abbrev μ-loop : tie.MeasureT-loop
+μ-loop sheet k sum₀ i₀ sum i = k - i
+
+loop-holds : tie.Need-loop-holds Inv-loop μ-loop
+loop-holds c = (omega arith, start-none _, omega arith)
+
+length-at-requires : tie.Need-length-at-requires Inv-loop μ-loop
+length-at-requires c κs = (c .before .before .before .pre .0, omega arith, omega arith)
+
+add-sum : tie.Need-add-sum Inv-loop μ-loop
+add-sum c = omega arith
+
+add-i : tie.Need-add-i Inv-loop μ-loop
+add-i c = omega arith
+
+loop-less : tie.Need-loop-less Inv-loop μ-loop
+loop-less c = omega arith
+
+loop-again : tie.Need-loop-again Inv-loop μ-loop
+loop-again c = (omega arith, start-more _ _ _ _ (c .before .before .loop .inv .1) (c .length-at .ensures .0), omega arith)
+
+returns : tie.Need-returns Inv-loop μ-loop
+returns c = c .before .loop .inv .1 ∙ ap (λ (x : ℕ). startOf (now (c .before .before .before .args .sheet)) x) (omega arith)
+
+pub lengths-sum-spec : {M : Type 1} → statement M
+lengths-sum-spec =
+    tie.close
+    (tie.spec
+    Inv-loop
+    μ-loop
+    loop-holds
+    length-at-requires
+    add-sum
+    add-i
+    loop-less
+    loop-again
+    returns)

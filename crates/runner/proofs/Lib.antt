@@ -1,0 +1,16 @@
+pub mod Rows
+pub mod Labels
+pub mod Admission
+pub mod Chain
+pub mod Scan
+pub mod Judging
+pub mod Writing
+pub mod Stack
+pub mod Entering
+pub mod Leaving
+pub mod Weights
+pub mod Moving
+pub mod Running
+pub mod Standing
+pub mod Playing
+pub mod Runs

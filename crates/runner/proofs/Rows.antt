@@ -1,0 +1,47 @@
+-- Laws of a held store: what stands in a slot's row. Assumes nothing.
+use Prim.Native.Nat.{ℕ, zero, suc, _≤_, _<_}
+use mathlib.Core.Path.{_≡_, refl, ap, _∙_}
+use mathlib.Core.List.{List, [], _∷_}
+use native.Mathlib.Nat.{le-of-suc-le-suc, not-suc-le-zero}
+use native.Mathlib.Omega.{arith}
+use lib.ListN.{getD, List·getD-eq-default}
+use Rattle.lattice.specs.Order.{Label}
+use Rattle.store.specs.Bytes.{table}
+use Rattle.store.specs.Value.{Slot, opened, emptySlot}
+use Rattle.store.specs.Sheet.{Tables, ownerOf, mostSlots}
+use Rattle.store.specs.Held.{rowOf, heldOf}
+use Rattle.calculus.specs.Calculus.{Store}
+use Rattle.runner.specs.Held.{Grounds, StoreHeld}
+
+table-at : {A : Type 0} (n : ℕ) (f : ℕ → A) (d : A) (k : ℕ) → k < n → getD (table n f) k d ≡ f k
+unfolding table
+table-at zero f d k h = absurd (not-suc-le-zero h)
+table-at (suc n) f d zero h = refl
+table-at (suc n) f d (suc k) h = table-at n (λ i. f (suc i)) d k (le-of-suc-le-suc h)
+
+module _ (w : Tables) (s : Store) (i : ℕ) where
+  -- the row of a slot
+  pub row-at : (rows : List (List ℕ)) → StoreHeld w s rows → i < mostSlots → getD rows i [] ≡ rowOf (getD s i emptySlot) (ownerOf w i)
+  unfolding heldOf
+  row-at rows h l =
+      ap (λ (r : List (List ℕ)). getD r i []) (h .same) ∙ table-at mostSlots (λ k. rowOf (getD s k emptySlot) (ownerOf w k)) [] i l
+
+  -- past the last slot
+  pub row-past : (rows : List (List ℕ)) → Grounds w → StoreHeld w s rows → mostSlots ≤ i
+      → 0 ∷ 0 ∷ 0 ∷ [] ≡ rowOf (getD s i emptySlot) (ownerOf w i)
+  unfolding rowOf emptySlot opened
+  row-past rows g h l = rw (List·getD-eq-default s emptySlot {n = i} (omega (arith, h .size)), g .past i l) refl
+
+-- what a row holds
+module _ (s : Slot) (o : Label) (row : List ℕ) (e : row ≡ rowOf s o) where
+  pub row-kind : getD row 0 0 ≡ s .value .kind
+  unfolding rowOf
+  row-kind = ap (λ (r : List ℕ). getD r 0 0) e
+
+  pub row-payload : getD row 1 0 ≡ s .value .payload
+  unfolding rowOf
+  row-payload = ap (λ (r : List ℕ). getD r 1 0) e
+
+  pub row-owner : getD row 2 0 ≡ o
+  unfolding rowOf
+  row-owner = ap (λ (r : List ℕ). getD r 2 0) e

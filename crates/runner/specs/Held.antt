@@ -1,0 +1,96 @@
+-- What the machine's numbers mean in the calculus: labels as masks, slots as rows, answers of its parts. Assumes nothing.
+use Prim.Native.Nat.{ℕ, _≤_, _<_}
+use mathlib.Core.Path.{_≡_}
+use mathlib.Core.Bool.{Bool, true, false, not}
+use mathlib.Core.List.{List}
+use lib.ListN.{length}
+use lib.Dec.{eqb}
+use Rattle.lattice.specs.declared.Table.{Table}
+use Rattle.lattice.specs.Order.{Label, mask, good, top}
+use Rattle.store.specs.Result.{Result, ok, refuse, require}
+use Rattle.store.specs.Sheet.{Tables, ownerOf, mostSlots}
+use Rattle.store.specs.Held.{heldOf}
+use Rattle.calculus.specs.Rules.{RuleSet, accessControl, capability, explicitProvenance, fullProvenance, judgesViews, judgesRegion}
+use Rattle.calculus.specs.Calculus.{Setting, Store, Labelled, Judged, Write}
+use Rattle.calculus.specs.Blocks.{mostBudget}
+use Rattle.runner.specs.declared.Terms.{Terms}
+use Rattle.runner.specs.declared.Evaluated.{Evaluated}
+use Rattle.runner.specs.declared.Evaluated.the-variants as e
+use Rattle.runner.specs.declared.Verdict.{Verdict}
+use Rattle.runner.specs.declared.Verdict.the-variants as v
+use Rattle.runner.specs.declared.Made.{Made}
+use Rattle.runner.specs.declared.Made.the-variants as m
+
+-- a label is held as its principal's mask
+pub record LabelHeld (t : Table) (l : Label) (x : ℕ) : Type 0 where
+  pub inside : l < t .n
+  pub same : x ≡ mask t l
+
+-- whether a rule set judges the labels of target and value, and that of the branch
+unfoldable pub judgesLabels : RuleSet → Bool
+judgesLabels accessControl = false
+judgesLabels capability = false
+judgesLabels explicitProvenance = true
+judgesLabels fullProvenance = true
+
+unfoldable pub judgesBranch : RuleSet → Bool
+judgesBranch accessControl = false
+judgesBranch capability = false
+judgesBranch explicitProvenance = false
+judgesBranch fullProvenance = true
+
+-- a step's answer where steps are left, and 17 where none is
+unfoldable pub unspent : {A : Type 0} → Setting → ℕ → Result ℕ A → Result ℕ A
+unspent w steps r = require (not (eqb steps (w .budget))) 17 r
+
+-- good tables: what the checks of a store sheet leave
+pub record Grounds (w : Tables) : Type 0 where
+  pub order : good (w .order) ≡ true
+  pub owners : (i : ℕ) → ownerOf w i < w .order .n
+  pub past : (i : ℕ) → mostSlots ≤ i → ownerOf w i ≡ 0
+
+-- what a block runs under, as the machine holds it
+pub record Serves (w : Setting) (t : Terms) (held : List ℕ) : Type 0 where
+  pub grounds : Grounds (w .tables)
+  pub masks : w .tables .order .masks ≡ held
+  pub region : LabelHeld (w .tables .order) (w .header .region) (t .region)
+  pub top : LabelHeld (w .tables .order) (top (w .tables .order)) (t .top)
+  pub endorsed : t .endorsed ≡ w .header .endorsed
+  pub views : t .views ≡ judgesViews (w .rules)
+  pub regions : t .regions ≡ judgesRegion (w .rules)
+  pub labels : t .labels ≡ judgesLabels (w .rules)
+  pub branches : t .branches ≡ judgesBranch (w .rules)
+  pub budget : t .budget ≡ w .budget
+  pub modest : w .budget ≤ mostBudget
+
+-- a store is held as rows
+pub record StoreHeld (w : Tables) (s : Store) (rows : List (List ℕ)) : Type 0 where
+  pub size : length s ≡ mostSlots
+  pub same : rows ≡ heldOf w s
+
+-- a value with its label
+pub record ValueHeld (t : Table) (x : Labelled) (k p l : ℕ) : Type 0 where
+  pub kind : x .value .kind ≡ k
+  pub payload : x .value .payload ≡ p
+  pub label : LabelHeld t (x .label) l
+
+-- what an expression's, a guard's and an assignment's answer mean
+pub data EvaluatedAs (t : Table) : Evaluated → Result ℕ Labelled → Type 0 where
+  gives : {k p l : ℕ} {x : Labelled} → ValueHeld t x k p l → EvaluatedAs t (e.Value k p l) (ok x)
+  refuses : {n : ℕ} → EvaluatedAs t (e.Refused n) (refuse n)
+
+pub data JudgedAs (t : Table) : Verdict → Result ℕ Judged → Type 0 where
+  passes : {l : ℕ} {j : Judged} → j .passes ≡ true → LabelHeld t (j .label) l → JudgedAs t (v.Passes l) (ok j)
+  fails : {l : ℕ} {j : Judged} → j .passes ≡ false → LabelHeld t (j .label) l → JudgedAs t (v.Fails l) (ok j)
+  refuses : {n : ℕ} → JudgedAs t (v.Refused n) (refuse n)
+
+pub data MadeAs (w : Tables) : Made → Result ℕ Write → Type 0 where
+  writes : {i k p o : ℕ} {x : Write} → x .slot ≡ i → x .value .kind ≡ k → x .value .payload ≡ p → ownerOf w i ≡ o → MadeAs w (m.Write i k p o) (ok x)
+  refuses : {n : ℕ} → MadeAs w (m.Refused n) (refuse n)
+
+-- the machine can judge: some setting and store stand behind its numbers
+pub record CanJudge (t : Terms) (masks : List ℕ) (rows : List (List ℕ)) : Type 0 where
+  pub setting : Setting
+  pub store : Store
+  pub serves : Serves setting t masks
+  pub held : StoreHeld (setting .tables) store rows

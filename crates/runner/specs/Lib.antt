@@ -1,0 +1,4 @@
+pub mod Layout
+pub mod Held
+pub mod Moves
+pub mod Playing

@@ -1,0 +1,1069 @@
+// The step machine: runs one block in place over its code bytes, with an explicit stack of open commands.
+// Definitions in specs/, laws in proofs/.
+ghost use mathlib.Core.Path.{_≡_};
+ghost use mathlib.Core.List.{List, [], _∷_};
+ghost use Prim.Native.Nat.{ℕ, _+_, _*_, _≤_, _<_};
+ghost use lib.ListN.{length, getD, set};
+ghost use Rattle.lattice.specs.Order.{Label, bit, top, mostPrincipals};
+ghost use Rattle.store.specs.Value.{emptySlot, valueAt, valueWidth, slotWidth};
+ghost use Rattle.store.specs.Sheet.{Tables, ownerOf, Opening};
+ghost use Rattle.store.specs.Held.{rowOf};
+ghost use Rattle.programme.specs.Syntax.{Expr, literal, Cmd};
+ghost use Rattle.calculus.specs.Rules.{labelsJudged, RuleSet, rulesOf};
+ghost use Rattle.calculus.specs.Calculus.{Setting, Store, Labelled, State, Write, mayHold, fetch, eval, judge, permit, assignment, reliable, written, exec};
+ghost use Rattle.runner.specs.Layout.{ExprAt, ExprIn, TwoExprs, CmdAt, readsOf};
+ghost use Rattle.runner.specs.Held.{LabelHeld, Grounds, Serves, StoreHeld, ValueHeld, EvaluatedAs, JudgedAs, MadeAs, CanJudge, unspent};
+ghost use Rattle.runner.specs.declared.Move.the-variants.{Enter};
+ghost use Rattle.runner.specs.Moves.{labelIn, StateHeld, RanAs, Entered, Left, CanEnter, CanGoOn, CanRun};
+ghost use Rattle.store.specs.Result.{Result, ok, unplaced};
+ghost use Rattle.programme.specs.Code.{readBlock};
+ghost use Rattle.programme.specs.Sheet.{Block, kOf, lengthAt, mostBlocks, mostCode, blocksFrom, programmeSheet};
+ghost use Rattle.calculus.specs.Blocks.{Halt, runBlocks, start};
+ghost use Rattle.calculus.specs.Run.{runProgramme, runOpened, answerOf, outputOf, answer, output};
+ghost use Rattle.runner.specs.Playing.{judgesOf, Under, CanPlay, Plays, LeftToPlay, PlayedAs, CanPlayAll, CanPlayAt, EndedAs, OpeningHeld, CanStart, CanFinish};
+use lattice::Table;
+use programme::Header;
+use programme::Sizes;
+use store::Answer;
+use store::Opened;
+use store::Value;
+
+// What a block runs under: what its rule set judges, its region's and the top's masks, and the budget.
+pub struct Terms {
+    // Write views, wherever they turn up (rule 1).
+    pub views: bool,
+    // The region, at each assignment (rules 0, 2 and 3).
+    pub regions: bool,
+    // The labels of target and value (rules 2 and 3).
+    pub labels: bool,
+    // The branch's label too (rule 3).
+    pub branches: bool,
+    pub endorsed: bool,
+    pub region: u32,
+    pub top: u32,
+    pub budget: u32,
+}
+
+// An expression's value with its label, or the number of its refusal.
+pub enum Evaluated {
+    Value { kind: u64, payload: u64, label: u32 },
+    Refused(u32),
+}
+
+// A guard's verdict with its label, or the number of its refusal.
+pub enum Verdict {
+    Passes(u32),
+    Fails(u32),
+    Refused(u32),
+}
+
+// What an assignment writes, or the number of its refusal.
+pub enum Made {
+    Write {
+        slot: u64,
+        kind: u64,
+        payload: u64,
+        owner: u64,
+    },
+    Refused(u32),
+}
+
+// What comes next: a command is entered, or one was left, or a step was forbidden.
+pub enum Move {
+    Enter {
+        at: usize,
+        depth: usize,
+        label: u32,
+        steps: u32,
+    },
+    Leave {
+        at: usize,
+        depth: usize,
+        steps: u32,
+    },
+    Stopped {
+        number: u32,
+        at: usize,
+        steps: u32,
+    },
+}
+
+// How a block ended.
+pub enum Ran {
+    Done(u32),
+    Stopped { number: u32, at: usize, steps: u32 },
+}
+
+// What a rule set judges.
+pub struct Judges {
+    // Whether the rule number is one.
+    pub known: bool,
+    pub views: bool,
+    pub regions: bool,
+    pub labels: bool,
+    pub branches: bool,
+}
+
+impl Judges {
+    pub const ACCESS_CONTROL: u8 = 0;
+
+    pub const CAPABILITY: u8 = 1;
+
+    pub const EXPLICIT_PROVENANCE: u8 = 2;
+
+    pub const FULL_PROVENANCE: u8 = 3;
+    // Stands for a rule set by default: access control.
+    pub const DEFAULT: u8 = 255;
+
+    pub const MOST_BUDGET: u32 = 1_000_000;
+}
+
+// How a run of blocks ended.
+pub enum Ended {
+    Finished(u32),
+    Halted {
+        number: u32,
+        block: usize,
+        offset: usize,
+        steps: u32,
+    },
+}
+
+fn wide(x: u8) -> u64
+    ensures { λ r. ⌜ r ≡ x ⌝ }
+{
+    x as u64
+}
+
+// Slot i's row; past the last slot the row of an empty slot.
+fn row_of(held: &[[u64; 3]; 256], slot: u64) -> [u64; 3]
+    ensures { λ r. ⌜ ((w : Tables) (s : Store) → Grounds w → StoreHeld w s (now (held .entry)) → r ≡ rowOf (getD s slot emptySlot) (ownerOf w slot)) ⌝ }
+{
+    if slot < 256 {
+        let i = slot as usize;
+        held[i]
+    } else {
+        [0, 0, 0]
+    }
+}
+
+// Whether the principal `owner` stands at or below the label.
+fn at_or_above(label: u32, owner: u64) -> bool
+    requires { ⌜ owner < 32 ⌝ }
+    ensures { λ r. ⌜ r ≡ bit label owner ⌝ }
+{
+    let shift = owner as u32;
+    (label >> shift) % 2 == 1
+}
+
+// Rule 1: whether the region may hold this value (15).
+fn admitted(
+    held: &[[u64; 3]; 256],
+    masks: &[u32; 32],
+    terms: Terms,
+    kind: u64,
+    payload: u64,
+) -> bool
+    requires { ⌜ CanJudge terms (now masks) (now held) ⌝ }
+    ensures { λ r. ⌜ ((w : Setting) (s : Store) → Serves w terms (now (masks .entry)) → StoreHeld (w .tables) s (now (held .entry)) → r ≡ mayHold w (record { kind = kind; payload = payload })) ⌝ }
+{
+    let views = terms.views;
+    if !views {
+        return true;
+    }
+    if kind != 3 {
+        return true;
+    }
+    let row = row_of(held, payload);
+    let region = terms.region;
+    at_or_above(region, row[2])
+}
+
+// Reads through a view (13), and judges what stands there (15).
+fn fetch(
+    held: &[[u64; 3]; 256],
+    masks: &[u32; 32],
+    terms: Terms,
+    kind: u64,
+    payload: u64,
+    label: u32,
+) -> Evaluated
+    requires { ⌜ CanJudge terms (now masks) (now held) ⌝ }
+    ensures { λ r. ⌜ ((w : Setting) (s : Store) (x : Labelled) → Serves w terms (now (masks .entry)) → StoreHeld (w .tables) s (now (held .entry)) → ValueHeld (w .tables .order) x kind payload label → EvaluatedAs (w .tables .order) r (fetch w s x)) ⌝ }
+{
+    if kind != 2 {
+        return Evaluated::Refused(13);
+    }
+    let row = row_of(held, payload);
+    let k = row[0];
+    let p = row[1];
+    let owner = row[2] as usize;
+    if !admitted(held, masks, terms, k, p) {
+        return Evaluated::Refused(15);
+    }
+    let mask = masks[owner];
+    Evaluated::Value {
+        kind: k,
+        payload: p,
+        label: label & mask,
+    }
+}
+
+// Where the literal of the expression at `at` stands: after its bytes 11.
+fn literal_at(code: &[u8], at: usize) -> usize
+    requires { ⌜ ExprIn (now code) at ⌝ }
+    ensures { λ r. ⌜ ((e : Expr) (end : ℕ) → ExprAt (now (code .entry)) e at end → (r ≡ at + readsOf e) × (r + 1 + valueWidth ≡ end)) ⌝ }
+{
+    let mut here = at;
+    while code[here] == 0x11 {
+        here += 1;
+    }
+    here
+}
+
+// The literal whose byte 10 stands at `at`.
+fn literal(
+    code: &[u8],
+    held: &[[u64; 3]; 256],
+    masks: &[u32; 32],
+    terms: Terms,
+    at: usize,
+) -> Evaluated
+    requires { ⌜ CanJudge terms (now masks) (now held) × (at < length (now code)) ⌝ }
+    ensures { λ r. ⌜ ((w : Setting) (s : Store) → Serves w terms (now (masks .entry)) → StoreHeld (w .tables) s (now (held .entry)) → EvaluatedAs (w .tables .order) r (eval w s (literal (valueAt (now (code .entry)) (at + 1))))) ⌝ }
+{
+    let v = store::value_at(code, at + 1);
+    let kind = wide(v.kind);
+    let payload = v.payload;
+    if !admitted(held, masks, terms, kind, payload) {
+        return Evaluated::Refused(15);
+    }
+    let top = terms.top;
+    Evaluated::Value {
+        kind,
+        payload,
+        label: top,
+    }
+}
+
+// The expression at `at`, whose literal stands at `inner`: from its literal outwards.
+fn eval(
+    code: &[u8],
+    held: &[[u64; 3]; 256],
+    masks: &[u32; 32],
+    terms: Terms,
+    at: usize,
+    inner: usize,
+) -> Evaluated
+    requires { ⌜ CanJudge terms (now masks) (now held) × (at ≤ inner) × (inner < length (now code)) ⌝ }
+    ensures { λ r. ⌜ ((w : Setting) (s : Store) (e : Expr) (end : ℕ) → Serves w terms (now (masks .entry)) → StoreHeld (w .tables) s (now (held .entry)) → ExprAt (now (code .entry)) e at end → inner ≡ at + readsOf e → EvaluatedAs (w .tables .order) r (eval w s e)) ⌝ }
+{
+    let mut got = literal(code, held, masks, terms, inner);
+    let mut left = inner - at;
+    while 0 < left {
+        match got {
+            Evaluated::Value {
+                kind,
+                payload,
+                label,
+            } => {
+                got = fetch(held, masks, terms, kind, payload, label);
+                left -= 1;
+            }
+            Evaluated::Refused(number) => {
+                return Evaluated::Refused(number);
+            }
+        }
+    }
+    got
+}
+
+// Judges the guard at `at`: 17 first, then the expression, then its kind.
+fn judge(
+    code: &[u8],
+    held: &[[u64; 3]; 256],
+    masks: &[u32; 32],
+    terms: Terms,
+    at: usize,
+    inner: usize,
+    steps: u32,
+) -> Verdict
+    requires { ⌜ CanJudge terms (now masks) (now held) × (at ≤ inner) × (inner < length (now code)) ⌝ }
+    ensures { λ r. ⌜ ((w : Setting) (s : Store) (g : Expr) (end : ℕ) → Serves w terms (now (masks .entry)) → StoreHeld (w .tables) s (now (held .entry)) → ExprAt (now (code .entry)) g at end → inner ≡ at + readsOf g → JudgedAs (w .tables .order) r (unspent w steps (judge w s g))) ⌝ }
+{
+    let budget = terms.budget;
+    if steps == budget {
+        return Verdict::Refused(17);
+    }
+    match eval(code, held, masks, terms, at, inner) {
+        Evaluated::Value {
+            kind,
+            payload,
+            label,
+        } => {
+            if kind != 1 {
+                return Verdict::Refused(13);
+            }
+            if payload == 1 {
+                Verdict::Passes(label)
+            } else {
+                Verdict::Fails(label)
+            }
+        }
+        Evaluated::Refused(number) => Verdict::Refused(number),
+    }
+}
+
+// Whether the labels that the rule set judges stand at or above the owner (16).
+fn reliable(terms: Terms, owner: u64, target: u32, value: u32, branch: u32) -> bool
+    requires { ⌜ owner < 32 ⌝ }
+    ensures { λ r. ⌜ ((w : Setting) (masks : List ℕ) (i : ℕ) (x y b : Label) → Serves w terms masks → ownerOf (w .tables) i ≡ owner → LabelHeld (w .tables .order) x target → LabelHeld (w .tables .order) y value → LabelHeld (w .tables .order) b branch → r ≡ reliable w i (labelsJudged (w .rules) x y b)) ⌝ }
+{
+    let endorsed = terms.endorsed;
+    let labels = terms.labels;
+    let branches = terms.branches;
+    if endorsed {
+        return true;
+    }
+    if !labels {
+        return true;
+    }
+    let both = target & value;
+    if branches {
+        return at_or_above(both & branch, owner);
+    }
+    at_or_above(both, owner)
+}
+
+// Judges an assignment whose target names `slot`: the region (14), then the labels (16).
+fn permit(
+    held: &[[u64; 3]; 256],
+    masks: &[u32; 32],
+    terms: Terms,
+    slot: u64,
+    target: u32,
+    kind: u64,
+    payload: u64,
+    value: u32,
+    branch: u32,
+) -> Made
+    requires { ⌜ CanJudge terms (now masks) (now held) ⌝ }
+    ensures { λ r. ⌜ ((w : Setting) (s : Store) (x y : Labelled) (b : Label) → Serves w terms (now (masks .entry)) → StoreHeld (w .tables) s (now (held .entry)) → x .value .payload ≡ slot → LabelHeld (w .tables .order) (x .label) target → ValueHeld (w .tables .order) y kind payload value → LabelHeld (w .tables .order) b branch → MadeAs (w .tables) r (permit w b x y)) ⌝ }
+{
+    let row = row_of(held, slot);
+    let owner = row[2];
+    let regions = terms.regions;
+    if regions {
+        let region = terms.region;
+        if !at_or_above(region, owner) {
+            return Made::Refused(14);
+        }
+    }
+    if !reliable(terms, owner, target, value, branch) {
+        return Made::Refused(16);
+    }
+    Made::Write {
+        slot,
+        kind,
+        payload,
+        owner,
+    }
+}
+
+// Judges the assignment whose target stands at `at`: 17, the target and its kind, the value, then 14 and 16.
+fn assign(
+    code: &[u8],
+    held: &[[u64; 3]; 256],
+    masks: &[u32; 32],
+    terms: Terms,
+    at: usize,
+    branch: u32,
+    steps: u32,
+) -> Made
+    requires { ⌜ CanJudge terms (now masks) (now held) × TwoExprs (now code) at ⌝ }
+    ensures { λ r. ⌜ ((w : Setting) (s : Store) (x y : Expr) (mid end : ℕ) (b : Label) → Serves w terms (now (masks .entry)) → StoreHeld (w .tables) s (now (held .entry)) → ExprAt (now (code .entry)) x at mid → ExprAt (now (code .entry)) y mid end → LabelHeld (w .tables .order) b branch → MadeAs (w .tables) r (unspent w steps (assignment w b s x y))) ⌝ }
+{
+    let budget = terms.budget;
+    if steps == budget {
+        return Made::Refused(17);
+    }
+    let inner = literal_at(code, at);
+    match eval(code, held, masks, terms, at, inner) {
+        Evaluated::Value {
+            kind,
+            payload,
+            label,
+        } => {
+            if kind != 3 {
+                return Made::Refused(13);
+            }
+            let next = inner + 1 + Value::WIDTH;
+            let last = literal_at(code, next);
+            match eval(code, held, masks, terms, next, last) {
+                Evaluated::Value {
+                    kind: k,
+                    payload: p,
+                    label: l,
+                } => { permit(held, masks, terms, payload, label, k, p, l, branch) }
+                Evaluated::Refused(number) => Made::Refused(number),
+            }
+        }
+        Evaluated::Refused(number) => Made::Refused(number),
+    }
+}
+
+fn wide32(x: u8) -> u32
+    ensures { λ r. ⌜ (r ≡ x) × (r < 256) ⌝ }
+{
+    x as u32
+}
+
+fn wide16(x: u16) -> usize
+    ensures { λ r. ⌜ r ≡ x ⌝ }
+{
+    x as usize
+}
+
+// Puts what an assignment writes into its slot's row.
+fn put(held: &mut [[u64; 3]; 256], slot: u64, kind: u64, payload: u64, owner: u64)
+    ensures { λ r. ⌜ ((w : Tables) (s : Store) (x : Write) → Grounds w → StoreHeld w s (now (held .entry)) → x .slot ≡ slot → x .value .kind ≡ kind → x .value .payload ≡ payload → ownerOf w slot ≡ owner → StoreHeld w (written x s) (now (held .exit))) ⌝ }
+{
+    if slot < 256 {
+        let i = slot as usize;
+        held[i] = [kind, payload, owner];
+    }
+}
+
+// An assignment: a step, and the command is left.
+fn enter_assign(
+    code: &[u8],
+    ends: &[u16; 16384],
+    held: &mut [[u64; 3]; 256],
+    masks: &[u32; 32],
+    frames: &[[u32; 3]; 32],
+    terms: Terms,
+    at: usize,
+    depth: usize,
+    label: u32,
+    steps: u32,
+) -> Move
+    requires { ⌜ CanEnter terms (now masks) (now code) (now ends) (now frames) (now held) at depth label steps × (getD (now code) at 0 ≡ 0x21) ⌝ }
+    ensures { λ r. ⌜ Entered terms (now (masks .entry)) (now (code .entry)) (now (ends .entry)) (now (frames .entry)) (now (frames .entry)) (now (held .entry)) (now (held .exit)) at depth label steps r ⌝ }
+{
+    match assign(code, held, masks, terms, at + 1, label, steps) {
+        Made::Write {
+            slot,
+            kind,
+            payload,
+            owner,
+        } => {
+            put(held, slot, kind, payload, owner);
+            let end = wide16(ends[at]);
+            Move::Leave {
+                at: end,
+                depth,
+                steps: steps + 1,
+            }
+        }
+        Made::Refused(number) => Move::Stopped { number, at, steps },
+    }
+}
+
+// A sequence: its first child is entered, under the same label.
+fn enter_seq(frames: &mut [[u32; 3]; 32], at: usize, depth: usize, label: u32, steps: u32) -> Move
+    requires { ⌜ (at < 16384) × (depth < 32) ⌝ }
+    ensures { λ r. ⌜ (r ≡ Enter (at + 2) (depth + 1) label steps) × (now (frames .exit) ≡ set (now (frames .entry)) depth (at ∷ 0 ∷ label ∷ [])) ⌝ }
+{
+    frames[depth] = [at as u32, 0, label];
+    Move::Enter {
+        at: at + 2,
+        depth: depth + 1,
+        label,
+        steps,
+    }
+}
+
+// An if: its guard is judged, and one part is entered; the other is skipped at once by the side table.
+fn enter_if(
+    code: &[u8],
+    ends: &[u16; 16384],
+    held: &[[u64; 3]; 256],
+    masks: &[u32; 32],
+    frames: &mut [[u32; 3]; 32],
+    terms: Terms,
+    at: usize,
+    depth: usize,
+    label: u32,
+    steps: u32,
+) -> Move
+    requires { ⌜ CanEnter terms (now masks) (now code) (now ends) (now frames) (now held) at depth label steps × (getD (now code) at 0 ≡ 0x23) ⌝ }
+    ensures { λ r. ⌜ Entered terms (now (masks .entry)) (now (code .entry)) (now (ends .entry)) (now (frames .entry)) (now (frames .exit)) (now (held .entry)) (now (held .entry)) at depth label steps r ⌝ }
+{
+    let guard = at + 1;
+    let inner = literal_at(code, guard);
+    match judge(code, held, masks, terms, guard, inner, steps) {
+        Verdict::Passes(l) => {
+            let part = inner + 1 + Value::WIDTH;
+            let inside = label & l;
+            frames[depth] = [at as u32, 0, inside];
+            Move::Enter {
+                at: part,
+                depth: depth + 1,
+                label: inside,
+                steps: steps + 1,
+            }
+        }
+        Verdict::Fails(l) => {
+            let part = inner + 1 + Value::WIDTH;
+            let other = wide16(ends[part]);
+            let inside = label & l;
+            frames[depth] = [at as u32, 1, inside];
+            Move::Enter {
+                at: other,
+                depth: depth + 1,
+                label: inside,
+                steps: steps + 1,
+            }
+        }
+        Verdict::Refused(number) => Move::Stopped { number, at, steps },
+    }
+}
+
+// A while: its guard is judged, and its body entered, or the command is left.
+fn enter_while(
+    code: &[u8],
+    ends: &[u16; 16384],
+    held: &[[u64; 3]; 256],
+    masks: &[u32; 32],
+    frames: &mut [[u32; 3]; 32],
+    terms: Terms,
+    at: usize,
+    depth: usize,
+    label: u32,
+    steps: u32,
+) -> Move
+    requires { ⌜ CanEnter terms (now masks) (now code) (now ends) (now frames) (now held) at depth label steps × (getD (now code) at 0 ≡ 0x24) ⌝ }
+    ensures { λ r. ⌜ Entered terms (now (masks .entry)) (now (code .entry)) (now (ends .entry)) (now (frames .entry)) (now (frames .exit)) (now (held .entry)) (now (held .entry)) at depth label steps r ⌝ }
+{
+    let guard = at + 1;
+    let inner = literal_at(code, guard);
+    match judge(code, held, masks, terms, guard, inner, steps) {
+        Verdict::Passes(l) => {
+            let part = inner + 1 + Value::WIDTH;
+            let inside = label & l;
+            frames[depth] = [at as u32, 0, inside];
+            Move::Enter {
+                at: part,
+                depth: depth + 1,
+                label: inside,
+                steps: steps + 1,
+            }
+        }
+        Verdict::Fails(_) => {
+            let end = wide16(ends[at]);
+            Move::Leave {
+                at: end,
+                depth,
+                steps: steps + 1,
+            }
+        }
+        Verdict::Refused(number) => Move::Stopped { number, at, steps },
+    }
+}
+
+// Enters the command at `at`, by its first byte.
+fn enter(
+    code: &[u8],
+    ends: &[u16; 16384],
+    held: &mut [[u64; 3]; 256],
+    masks: &[u32; 32],
+    frames: &mut [[u32; 3]; 32],
+    terms: Terms,
+    at: usize,
+    depth: usize,
+    label: u32,
+    steps: u32,
+) -> Move
+    requires { ⌜ CanEnter terms (now masks) (now code) (now ends) (now frames) (now held) at depth label steps ⌝ }
+    ensures { λ r. ⌜ Entered terms (now (masks .entry)) (now (code .entry)) (now (ends .entry)) (now (frames .entry)) (now (frames .exit)) (now (held .entry)) (now (held .exit)) at depth label steps r ⌝ }
+{
+    let op = code[at];
+    match op {
+        0x20 => Move::Leave {
+            at: at + 1,
+            depth,
+            steps,
+        },
+        0x21 => enter_assign(
+            code,
+            ends,
+            held,
+            masks,
+            frames,
+            terms,
+            at,
+            depth,
+            label,
+            steps,
+        ),
+        0x22 => enter_seq(frames, at, depth, label, steps),
+        0x23 => enter_if(
+            code,
+            ends,
+            held,
+            masks,
+            frames,
+            terms,
+            at,
+            depth,
+            label,
+            steps,
+        ),
+        _ => enter_while(
+            code,
+            ends,
+            held,
+            masks,
+            frames,
+            terms,
+            at,
+            depth,
+            label,
+            steps,
+        ),
+    }
+}
+
+// The branch label inside `depth` open commands.
+fn label_in(frames: &[[u32; 3]; 32], top: u32, depth: usize) -> u32
+    requires { ⌜ depth ≤ 32 ⌝ }
+    ensures { λ r. ⌜ r ≡ labelIn (now (frames .entry)) top depth ⌝ }
+{
+    if depth == 0 {
+        return top;
+    }
+    let d = depth - 1;
+    let row = frames[d];
+    row[2]
+}
+
+// Goes on in the innermost open command: into its next child, out of it, or back to its guard.
+fn leave(
+    code: &[u8],
+    ends: &[u16; 16384],
+    frames: &mut [[u32; 3]; 32],
+    terms: Terms,
+    at: usize,
+    depth: usize,
+    steps: u32,
+) -> Move
+    requires { ⌜ CanGoOn terms (now code) (now ends) (now frames) at depth steps ⌝ }
+    ensures { λ r. ⌜ ((masks : List ℕ) (rows : List (List ℕ)) → Left terms masks (now (code .entry)) (now (ends .entry)) (now (frames .entry)) (now (frames .exit)) rows at depth steps r) ⌝ }
+{
+    let d = depth - 1;
+    let row = frames[d];
+    let p = row[0] as usize;
+    let child = row[1];
+    let inside = row[2];
+    let op = code[p];
+    match op {
+        0x22 => {
+            let count = wide32(code[p + 1]);
+            if child + 1 == count {
+                return Move::Leave {
+                    at,
+                    depth: d,
+                    steps,
+                };
+            }
+            frames[d] = [row[0], child + 1, inside];
+            Move::Enter {
+                at,
+                depth,
+                label: inside,
+                steps,
+            }
+        }
+        0x23 => {
+            let end = wide16(ends[p]);
+            Move::Leave {
+                at: end,
+                depth: d,
+                steps,
+            }
+        }
+        _ => {
+            let top = terms.top;
+            let outer = label_in(frames, top, d);
+            Move::Enter {
+                at: p,
+                depth: d,
+                label: outer,
+                steps,
+            }
+        }
+    }
+}
+
+// Runs a block that was read: one command, which fills its code.
+fn run_block(
+    code: &[u8],
+    ends: &[u16; 16384],
+    held: &mut [[u64; 3]; 256],
+    masks: &[u32; 32],
+    terms: Terms,
+    steps: u32,
+) -> Ran
+    requires { ⌜ CanRun terms (now masks) (now code) (now ends) (now held) steps ⌝ }
+    ensures { λ r. ⌜ ((w : Setting) (s : State) (c : Cmd) → Serves w terms (now (masks .entry)) → StateHeld w (now (held .entry)) steps s → CmdAt (now (code .entry)) (now (ends .entry)) c 0 (length (now (code .entry))) 0 → RanAs w (now (held .exit)) r (exec w c (top (w .tables .order)) s)) ⌝ }
+{
+    let mut frames: [[u32; 3]; 32] = [[0, 0, 0]; 32];
+    let top = terms.top;
+    let mut next = Move::Enter {
+        at: 0,
+        depth: 0,
+        label: top,
+        steps,
+    };
+    loop {
+        match next {
+            Move::Enter {
+                at,
+                depth,
+                label,
+                steps: done,
+            } => {
+                next = enter(
+                    code,
+                    ends,
+                    held,
+                    masks,
+                    &mut frames,
+                    terms,
+                    at,
+                    depth,
+                    label,
+                    done,
+                );
+            }
+            Move::Leave {
+                at,
+                depth,
+                steps: done,
+            } => {
+                if depth == 0 {
+                    return Ran::Done(done);
+                }
+                next = leave(code, ends, &mut frames, terms, at, depth, done);
+            }
+            Move::Stopped {
+                number,
+                at,
+                steps: done,
+            } => {
+                return Ran::Stopped {
+                    number,
+                    at,
+                    steps: done,
+                };
+            }
+        }
+    }
+}
+
+// What the rule set of a rule number judges.
+fn judges_of(rule: u8) -> Judges
+    ensures { λ r. ⌜ r ≡ judgesOf (rulesOf rule) ⌝ }
+{
+    let none = Judges {
+        known: false,
+        views: false,
+        regions: false,
+        labels: false,
+        branches: false,
+    };
+    let access_control = Judges {
+        known: true,
+        views: false,
+        regions: true,
+        labels: false,
+        branches: false,
+    };
+    if rule == Judges::ACCESS_CONTROL {
+        return access_control;
+    }
+    if rule == Judges::CAPABILITY {
+        return Judges {
+            known: true,
+            views: true,
+            regions: false,
+            labels: false,
+            branches: false,
+        };
+    }
+    if rule == Judges::EXPLICIT_PROVENANCE {
+        return Judges {
+            known: true,
+            views: false,
+            regions: true,
+            labels: true,
+            branches: false,
+        };
+    }
+    if rule == Judges::FULL_PROVENANCE {
+        return Judges {
+            known: true,
+            views: false,
+            regions: true,
+            labels: true,
+            branches: true,
+        };
+    }
+    if rule == Judges::DEFAULT {
+        access_control
+    } else {
+        none
+    }
+}
+
+// What a block runs under.
+fn terms_of(table: Table, judges: Judges, header: Header, budget: u32) -> Terms
+    requires { ⌜ header .region < mostPrincipals ⌝ }
+    ensures { λ r. ⌜ ((w : Setting) → Under w table judges header budget → Serves w r (table .masks)) ⌝ }
+{
+    let n = table.n;
+    let masks = table.masks;
+    let region = header.region;
+    let mask = masks[region];
+    let top = lattice::top_mask(n);
+    Terms {
+        views: judges.views,
+        regions: judges.regions,
+        labels: judges.labels,
+        branches: judges.branches,
+        endorsed: header.endorsed,
+        region: mask,
+        top,
+        budget,
+    }
+}
+
+// Reads a block again, into the side table, and runs it.
+fn play_block(
+    code: &[u8],
+    header: Header,
+    slots: usize,
+    ends: &mut [u16; 16384],
+    held: &mut [[u64; 3]; 256],
+    table: Table,
+    judges: Judges,
+    budget: u32,
+    steps: u32,
+) -> Ran
+    requires { ⌜ CanPlay (now code) header slots (now ends) (now held) table judges budget steps ⌝ }
+    ensures { λ r. ⌜
+        (length (now (ends .exit)) ≡ mostCode)
+        × ((w : Setting) (s : State) (c : Cmd) → Under w table judges header budget → StateHeld w (now (held .entry)) steps s → readBlock slots (now (code .entry)) ≡ ok c → RanAs w (now (held .exit)) r (exec w c (top (w .tables .order)) s))
+        ⌝ }
+{
+    programme::read_block(code, slots, ends);
+    let terms = terms_of(table, judges, header, budget);
+    let masks = table.masks;
+    run_block(code, ends, held, &masks, terms, steps)
+}
+
+// The length of block i.
+fn length_at(sheet: &[u8], k: usize, i: usize) -> usize
+    requires { ⌜ (k ≡ kOf (now sheet)) × (k ≤ mostBlocks) × (i < k) ⌝ }
+    ensures { λ r. ⌜ (r ≡ lengthAt (now (sheet .entry)) i) × (r < 65536) ⌝ }
+{
+    store::number_at(sheet, Sizes::WIDTH + k + 2 * i, 2) as usize
+}
+
+// Plays block i, whose code starts at `start` in the code.
+fn play_at(
+    sheet: &[u8],
+    k: usize,
+    i: usize,
+    start: usize,
+    slots: usize,
+    ends: &mut [u16; 16384],
+    held: &mut [[u64; 3]; 256],
+    table: Table,
+    judges: Judges,
+    budget: u32,
+    steps: u32,
+) -> Ran
+    requires { ⌜ CanPlayAt (now sheet) k i start slots (now ends) (now held) table judges budget steps ⌝ }
+    ensures { λ r. ⌜
+        (length (now (ends .exit)) ≡ mostCode)
+        × ((w : Tables) (rules : RuleSet) (whole : Result Halt State) → Plays w rules budget (now (sheet .entry)) k slots table judges → LeftToPlay w rules budget slots (now (sheet .entry)) k i steps (now (held .entry)) whole → PlayedAs w rules budget slots (now (sheet .entry)) k i (now (held .exit)) r whole)
+        ⌝ }
+{
+    let from = Sizes::WIDTH + 3 * k + start;
+    let to = from + length_at(sheet, k, i);
+    let header = programme::header_of(sheet[Sizes::WIDTH + i]);
+    play_block(
+        &sheet[from..to],
+        header,
+        slots,
+        ends,
+        held,
+        table,
+        judges,
+        budget,
+        steps,
+    )
+}
+
+// Plays the blocks in order. The running start is the lengths of those before.
+fn run_blocks(
+    sheet: &[u8],
+    k: usize,
+    slots: usize,
+    held: &mut [[u64; 3]; 256],
+    table: Table,
+    judges: Judges,
+    budget: u32,
+) -> Ended
+    requires { ⌜ CanPlayAll (now sheet) k slots (now held) table judges budget ⌝ }
+    ensures { λ r. ⌜ ((w : Tables) (rules : RuleSet) (s : Store) (bs : List Block) → Plays w rules budget (now (sheet .entry)) k slots table judges → StoreHeld w s (now (held .entry)) → blocksFrom slots (now (sheet .entry)) k 0 ≡ ok bs → EndedAs w (now (held .exit)) r (runBlocks w rules budget 0 bs (start s))) ⌝ }
+{
+    let mut ends = [0u16; 16384];
+    let mut steps: u32 = 0;
+    let mut begin = 0;
+    let mut i = 0;
+    while i < k {
+        match play_at(
+            sheet,
+            k,
+            i,
+            begin,
+            slots,
+            &mut ends,
+            held,
+            table,
+            judges,
+            budget,
+            steps,
+        ) {
+            Ran::Done(done) => {
+                steps = done;
+                begin += length_at(sheet, k, i);
+                i += 1;
+            }
+            Ran::Stopped {
+                number,
+                at,
+                steps: done,
+            } => {
+                return Ended::Halted {
+                    number,
+                    block: i,
+                    offset: at,
+                    steps: done,
+                };
+            }
+        }
+    }
+    Ended::Finished(steps)
+}
+
+fn refused(number: u32) -> Answer
+    ensures { λ r. ⌜ r ≡ unplaced number ⌝ }
+{
+    Answer {
+        number,
+        block: 0,
+        offset: 0,
+        steps: 0,
+    }
+}
+
+// Plays the blocks of a programme that was taken in, and writes the end store; a halt leaves the output as it was.
+fn finish(
+    programme: &[u8],
+    opened: Opened,
+    judges: Judges,
+    budget: u32,
+    held: &mut [[u64; 3]; 256],
+    out: &mut [u8],
+) -> Answer
+    requires { ⌜ CanFinish (now programme) opened judges budget (now held) ⌝ }
+    ensures { λ r. ⌜ ((rules : RuleSet) (o : Opening) (bs : List Block) → OpeningHeld o opened (now (held .entry)) → judges ≡ judgesOf (ok rules) → programmeSheet (o .tables .order .n) (o .tables .slots) (now (programme .entry)) ≡ ok bs → length (now (out .entry)) ≡ slotWidth * o .tables .slots → (r ≡ answerOf (runProgramme rules budget o bs)) × (now (out .exit) ≡ outputOf (runProgramme rules budget o bs) (now (out .entry)))) ⌝ }
+{
+    let k = store::number_at(programme, 0, 1) as usize;
+    let slots = opened.slots;
+    let table = opened.table;
+    match run_blocks(programme, k, slots, held, table, judges, budget) {
+        Ended::Finished(steps) => {
+            store::write_store(held, slots, out);
+            Answer {
+                number: 0,
+                block: k,
+                offset: 0,
+                steps,
+            }
+        }
+        Ended::Halted {
+            number,
+            block,
+            offset,
+            steps,
+        } => Answer {
+            number,
+            block,
+            offset,
+            steps,
+        },
+    }
+}
+
+// A run over an opened store: the programme sheet (6 to 10), the output's length (12), then the blocks.
+fn run_opened(
+    programme: &[u8],
+    opened: Opened,
+    judges: Judges,
+    budget: u32,
+    held: &mut [[u64; 3]; 256],
+    out: &mut [u8],
+) -> Answer
+    requires { ⌜ CanStart opened judges budget (now held) ⌝ }
+    ensures { λ r. ⌜ ((rules : RuleSet) (o : Opening) → OpeningHeld o opened (now (held .entry)) → judges ≡ judgesOf (ok rules) → (r ≡ answerOf (runOpened rules budget o (now (programme .entry)) (length (now (out .entry))))) × (now (out .exit) ≡ outputOf (runOpened rules budget o (now (programme .entry)) (length (now (out .entry)))) (now (out .entry)))) ⌝ }
+{
+    let slots = opened.slots;
+    let table = opened.table;
+    let checked = programme::check_programme(programme, table.n, slots);
+    if checked.number != 0 {
+        return checked;
+    }
+    if out.len() != Opened::SLOT_WIDTH * slots {
+        return refused(12);
+    }
+    finish(programme, opened, judges, budget, held, out)
+}
+
+// One run: judges the arguments (11), opens the store sheet (1 to 5), and runs the programme. The answer and every byte of the output
+// are the definitions', for every input.
+pub fn run(store: &[u8], programme: &[u8], rule: u8, budget: u32, out: &mut [u8]) -> Answer
+    ensures { λ r. ⌜
+        (r ≡ answer (now (store .entry)) (now (programme .entry)) rule budget (length (now (out .entry))))
+        × (now (out .exit) ≡ output (now (store .entry)) (now (programme .entry)) rule budget (now (out .entry)))
+        ⌝ }
+{
+    let judges = judges_of(rule);
+    let known = judges.known;
+    if !known {
+        return refused(11);
+    }
+    if Judges::MOST_BUDGET < budget {
+        return refused(11);
+    }
+    let mut held: [[u64; 3]; 256] = [[0, 0, 0]; 256];
+    let opened = store::open_store(store, &mut held);
+    let refusal = opened.refusal;
+    if refusal != 0 {
+        return refused(refusal);
+    }
+    run_opened(programme, opened, judges, budget, &mut held, out)
+}
