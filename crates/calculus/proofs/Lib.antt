@@ -7,6 +7,7 @@ pub mod Taint
 pub mod Confined
 pub mod Noninterference
 pub mod Finished
+pub mod Faithful
 pub mod Isolation
 pub mod Endorsed
 pub mod Vectors

@@ -2,5 +2,6 @@ pub mod Rules
 pub mod Calculus
 pub mod Blocks
 pub mod Run
+pub mod Faithful
 pub mod Isolation
 pub mod Vectors

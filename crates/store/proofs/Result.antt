@@ -42,6 +42,11 @@ module _ {E A : Type 0} where
   unfolding Post
   post-at P Q r a h e = rw e at h
 
+  -- what the refusal satisfies
+  pub post-refused : (P : A → Type 0) (Q : E → Type 0) (r : Result E A) (x : E) → Post P Q r → r ≡ refuse x → Q x
+  unfolding Post
+  post-refused P Q r x h e = rw e at h
+
   pub bind-ok : (r : Result E A) → (r >>= λ a. ok a) ≡ r
   unfolding _>>=_
   bind-ok (ok a) = refl
