@@ -1,6 +1,6 @@
 -- Demand 2 holds of the definitions. Assumes nothing.
 use Prim.Native.Nat.{ℕ, _*_, _≤_, _<_}
-use mathlib.Core.Path.{_≡_, refl, sym, ap, _∙_}
+use mathlib.Core.Path.{_≡_, refl, ap, _∙_}
 use mathlib.Core.List.{List}
 use native.Mathlib.Omega.{arith}
 use lib.ListN.{length}
@@ -11,7 +11,7 @@ use Rattle.store.specs.Value.{slotWidth}
 use Rattle.store.specs.Sheet.{slotsBytes}
 use Rattle.store.proofs.Result.{Post, post-at, post-refused, post-map}
 use Rattle.calculus.specs.Calculus.{State}
-use Rattle.calculus.specs.Blocks.{Halt, haltAnswer, runBlocks, mostBudget, start}
+use Rattle.calculus.specs.Blocks.{Halt, haltAnswer, mostBudget, start}
 use Rattle.calculus.specs.Run.{Finished, runProgramme, runOpened, run, answerOf, outputOf, answer, output}
 use Rattle.calculus.specs.Faithful.{Good, ownRun, Faithful, Faithfulness}
 use Rattle.calculus.proofs.Blocks.{run-counts}

@@ -5,8 +5,8 @@ use mathlib.Core.List.{List}
 use native.Mathlib.Omega.{arith}
 use Rattle.store.specs.declared.Answer.{Answer}
 use Rattle.store.specs.Result.{Result, ok, refuse, unplaced}
-use Rattle.store.proofs.Result.{Post, Refuses, post-map, post-refused-as, refuses-ok, refuses-require, refuses-bind}
-use Rattle.store.proofs.Opening.{Positive, store-opens}
+use Rattle.store.proofs.Result.{Post, Refuses, post-map, post-refused-as, refuses-ok, refuses-require, refuses-bind, Positive}
+use Rattle.store.proofs.Opening.{store-opens}
 use Rattle.programme.proofs.Refusals.{programme-refuses}
 use Rattle.calculus.specs.Blocks.{haltAnswer}
 use Rattle.calculus.proofs.Refusals.{rules-refuse, blocks-refuse}

@@ -7,8 +7,7 @@ use lib.Dec.{eqb}
 use Rattle.lattice.specs.Order.{Label}
 use Rattle.store.specs.Result.{Result}
 use Rattle.store.specs.Sheet.{Tables}
-use Rattle.store.proofs.Result.{Any, Refuses, post-refuse, post-refused-as, refuses-ok, refuses-require, refuses-bind}
-use Rattle.store.proofs.Opening.{Positive}
+use Rattle.store.proofs.Result.{Any, Refuses, post-refuse, post-refused-as, refuses-ok, refuses-require, refuses-bind, Positive}
 use Rattle.programme.specs.Sheet.{Block}
 use Rattle.programme.specs.Syntax.{Expr, literal, read, Cmd, cmd, Body, skip, assign, seq, if, while, Cmds, nil, cons}
 use Rattle.calculus.specs.Rules.{RuleSet, rulesOf}

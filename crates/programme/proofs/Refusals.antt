@@ -4,8 +4,7 @@ use mathlib.Core.List.{List}
 use native.Mathlib.Omega.{arith}
 use Rattle.store.specs.declared.Answer.{Answer}
 use Rattle.store.specs.Result.{Result, unplaced}
-use Rattle.store.proofs.Result.{Refuses, post-refuse, post-refused-as, refuses-ok, refuses-require, refuses-bind}
-use Rattle.store.proofs.Opening.{Positive}
+use Rattle.store.proofs.Result.{Refuses, post-refuse, post-refused-as, refuses-ok, refuses-require, refuses-bind, Positive}
 use Rattle.programme.specs.Syntax.{Expr, Cmd}
 use Rattle.programme.specs.Code.{Fault, Read, readValue, ExprByte, literalByte, readByte, exprByte, exprBy, readExpr, mostReads, CmdByte, skipByte, assignByte, seqByte, ifByte, whileByte, cmdByte, readCmds, readAssign, readSeq, readIf, readWhile, bodyBy, bodyTooDeep, readBody, mostDeep, readBlock}
 use Rattle.programme.specs.Sheet.{kOf, blockAt, blocksFrom, programmeSheet}

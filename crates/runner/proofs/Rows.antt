@@ -1,23 +1,16 @@
 -- Laws of a held store: what stands in a slot's row. Assumes nothing.
-use Prim.Native.Nat.{ℕ, zero, suc, _≤_, _<_}
+use Prim.Native.Nat.{ℕ, _≤_, _<_}
 use mathlib.Core.Path.{_≡_, refl, ap, _∙_}
 use mathlib.Core.List.{List, [], _∷_}
-use native.Mathlib.Nat.{le-of-suc-le-suc, not-suc-le-zero}
 use native.Mathlib.Omega.{arith}
 use lib.ListN.{getD, List·getD-eq-default}
 use Rattle.lattice.specs.Order.{Label}
-use Rattle.store.specs.Bytes.{table}
 use Rattle.store.specs.Value.{Slot, opened, emptySlot}
 use Rattle.store.specs.Sheet.{Tables, ownerOf, mostSlots}
 use Rattle.store.specs.Held.{rowOf, heldOf}
+use Rattle.store.proofs.Fill.{table-at}
 use Rattle.calculus.specs.Calculus.{Store}
 use Rattle.runner.specs.Held.{Grounds, StoreHeld}
-
-table-at : {A : Type 0} (n : ℕ) (f : ℕ → A) (d : A) (k : ℕ) → k < n → getD (table n f) k d ≡ f k
-unfolding table
-table-at zero f d k h = absurd (not-suc-le-zero h)
-table-at (suc n) f d zero h = refl
-table-at (suc n) f d (suc k) h = table-at n (λ i. f (suc i)) d k (le-of-suc-le-suc h)
 
 module _ (w : Tables) (s : Store) (i : ℕ) where
   -- the row of a slot

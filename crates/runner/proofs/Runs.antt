@@ -16,10 +16,10 @@ use Rattle.store.specs.Bytes.{table}
 use Rattle.store.specs.Value.{Slot, emptySlot, slotWidth, slotBytes, valueBytes}
 use Rattle.store.specs.Sheet.{Tables, Opening, ownerOf, mostSlots, storeSheet, slotsBytes}
 use Rattle.store.specs.Held.{openedOf, heldAfter, heldOf, rowOf, rowBytes, rowsBytes, roomChecked, outAfter}
-use Rattle.store.proofs.Result.{Post, Refuses, refuses-ok, post-refuse, post-at}
+use Rattle.store.proofs.Result.{Post, Refuses, refuses-ok, post-refuse, post-at, Positive}
 use Rattle.store.proofs.InTurn.{require-ok}
 use Rattle.store.proofs.Fill.{table-at}
-use Rattle.store.proofs.Opening.{Opens, store-opens, Positive}
+use Rattle.store.proofs.Opening.{Opens, store-opens}
 use Rattle.programme.specs.Sheet.{Block, kOf, headerAt, headerGood, blocksFrom, programmeSheet, verdictOf}
 use Rattle.programme.specs.Reading.{GoodLengths}
 use Rattle.calculus.specs.Rules.{RuleSet, rulesOf, judgesViews, judgesRegion}

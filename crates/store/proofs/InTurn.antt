@@ -8,13 +8,9 @@ use native.Mathlib.Omega.{arith}
 use native.Mathlib.Numerals.{add-one}
 use Rattle.store.specs.Result.{Result, ok, refuse, _>>=_, require, inTurn}
 use Rattle.store.specs.Held.{refusalOf}
-use Rattle.store.proofs.Result.{Post, Any}
+use Rattle.store.proofs.Result.{Post, Refuses, Positive}
 
--- 0 is the number of no refusal
-abbrev pub Numbered : {A : Type 0} → Result ℕ A → Type 0
-Numbered r = Post Any (λ (e : ℕ). 0 < e) r
-
-pub passed : (r : Result ℕ (Unit {0})) → Numbered r → refusalOf r ≡ 0 → r ≡ ok tt
+pub passed : (r : Result ℕ (Unit {0})) → Refuses Positive r → refusalOf r ≡ 0 → r ≡ ok tt
 unfolding Post refusalOf
 passed (ok _) h e = refl
 passed (refuse e) h p = absurd (omega arith)

@@ -1,10 +1,10 @@
 -- Laws of a good store sheet: its order table, its owners, its slots, and its end in the output. Assumes nothing.
-use Prim.Native.Nat.{ℕ, zero, suc, _+_, _*_, _^_, _≤_, _<_}
+use Prim.Native.Nat.{ℕ, zero, suc, _+_, _*_, _≤_, _<_}
 use mathlib.Core.Path.{_≡_, sym, ap, _∙_}
 use mathlib.Core.Logic.{⊎-elim}
 use mathlib.Core.Bool.{true}
 use mathlib.Core.List.{List, _++_}
-use native.Mathlib.Nat.{pow-suc, le-of-suc-le-suc, eq-or-lt-of-le}
+use native.Mathlib.Nat.{le-of-suc-le-suc, eq-or-lt-of-le}
 use native.Mathlib.Omega.{arith}
 use native.Mathlib.Decide.{decLt}
 use lib.ListN.{length, getD, take, drop, List·getD-eq-default}
@@ -13,11 +13,12 @@ use borrow.Author.Tests.{ltb-true, leb-true, le-ltb}
 use Rattle.lattice.specs.Order.{good}
 use Rattle.lattice.proofs.Tests.{and-l, and-r}
 use Rattle.store.specs.Result.{Result, inTurn}
-use Rattle.store.specs.Bytes.{Bytes, numberAt, part, table, filled}
+use Rattle.store.specs.Bytes.{Bytes, part, table, filled}
 use Rattle.store.specs.Value.{payloadWidth, valueAt, Slot, opened, emptySlot, slotWidth, slotBytes}
 use Rattle.store.specs.Sheet.{Tables, Opening, ownerOf, mostSlots, nOf, mOf, ownerAt, slotValueAt, orderOf, tablesOf, openingOf, Form, storeForm, slotChecked, bodyChecked, sheetChecked, sizesAllowed, storeSheet, slotsBytes}
-use Rattle.store.proofs.Result.{Post, post-ok, post-map, post-require, post-bind}
+use Rattle.store.proofs.Result.{Post, Positive, post-ok, post-map, post-require, post-bind}
 use Rattle.store.proofs.Fill.{pick, length-filled, entry-at, filled-at}
+use Rattle.store.proofs.Numbers.{number-lt}
 use Rattle.store.proofs.Bytes.{length-slot, value-read}
 
 -- an entry of an array that was not filled
@@ -28,10 +29,6 @@ filled-past size n f d i h = go (decLt i size)
     go : Dec (i < size) → getD (filled size n f d) i d ≡ d
     go (yes k) = entry-at size f d n d i k ∙ rw (le-ltb i n h)
     go (no k) = List·getD-eq-default (filled size n f d) d {n = i} (omega (arith, length-filled size f d n))
-
--- Refusals have numbers from 1 on.
-abbrev pub Positive : ℕ → Type 0
-Positive e = 0 < e
 
 -- What the checks of a sheet tell
 
@@ -51,12 +48,12 @@ pub record Checked (s : List ℕ) : Type 0 where
   pub table : good (orderOf s) ≡ true
   pub owners : (i : ℕ) → i < mOf s → ownerAt s i < nOf s
 
-slot-checked : (f : Form) (s : List ℕ) (i : ℕ) → Post (λ _. ownerAt s i < nOf s) Positive (slotChecked f s i)
+pub slot-checked : (f : Form) (s : List ℕ) (i : ℕ) → Post (λ _. ownerAt s i < nOf s) Positive (slotChecked f s i)
 unfolding slotChecked
 slot-checked f s i =
     post-require _ _ _ _ _ (λ e. post-require _ _ _ _ _ (λ _. post-ok _ _ _ (ltb-true _ _ e)) (λ _. omega arith)) (λ _. omega arith)
 
-sheet-checked : (f : Form) (s : List ℕ) → Post (λ _. Checked s) Positive (sheetChecked f s)
+pub sheet-checked : (f : Form) (s : List ℕ) → Post (λ _. Checked s) Positive (sheetChecked f s)
 unfolding sheetChecked bodyChecked sizesAllowed
 sheet-checked f s =
     post-require _ _ _ _ _
@@ -112,18 +109,13 @@ store-opens s = post-bind _ _ _ _ _ (sheet-checked storeForm s) (λ _ c. post-ok
 
 -- Values in bytes
 
-number-lt : (width : ℕ) (s : List ℕ) (at : ℕ) → Bytes s → numberAt width s at < 256 ^ width
-unfolding numberAt
-number-lt zero s at h = omega arith
-number-lt (suc width) s at h = rw pow-suc (omega (arith, h at, number-lt width s (at + 1) h))
-
 -- values read from bytes are known by their slots in the output
 pub values-one : (s s′ : List ℕ) (at at′ : ℕ) → Bytes s → Bytes s′
     → slotBytes (opened (valueAt s at)) ≡ slotBytes (opened (valueAt s′ at′)) → valueAt s at ≡ valueAt s′ at′
 unfolding slotBytes opened valueAt
 values-one s s′ at at′ h h′ e =
-    sym (value-read (valueAt s at) (h at) (number-lt payloadWidth s (at + 1) h)) ∙ ap (λ (l : List ℕ). valueAt l 0) e
-    ∙ value-read (valueAt s′ at′) (h′ at′) (number-lt payloadWidth s′ (at′ + 1) h′)
+    sym (value-read (valueAt s at) (h at) (number-lt s h payloadWidth (at + 1))) ∙ ap (λ (l : List ℕ). valueAt l 0) e
+    ∙ value-read (valueAt s′ at′) (h′ at′) (number-lt s′ h′ payloadWidth (at′ + 1))
 
 -- The output
 

@@ -1,4 +1,5 @@
 -- Laws of answers: what holds of the value where there is one, and of the refusal where there is one. Assumes nothing.
+use Prim.Native.Nat.{ℕ, _<_}
 use mathlib.Core.Path.{_≡_, refl}
 use mathlib.Core.Bool.{Bool, true, false}
 use Rattle.store.specs.Result.{Result, ok, refuse, _>>=_, require, refusedAs}
@@ -81,6 +82,10 @@ module _ {E A B C : Type 0} where
   bind-assoc (refuse e) k l = refl
 
 -- What holds of every refusal
+
+-- Refusals have numbers from 1 on.
+abbrev pub Positive : ℕ → Type 0
+Positive e = 0 < e
 
 abbrev pub Refuses : {E A : Type 0} → (E → Type 0) → Result E A → Type 0
 Refuses Q r = Post Any Q r

@@ -1,48 +1,29 @@
 -- Laws of the store sheet: the numbers of its refusals, and what opening it gives. Assumes nothing.
-use Prim.Native.Nat.{ℕ, zero, suc, _<_}
+use Prim.Native.Nat.{ℕ}
 use mathlib.Core.Path.{_≡_, refl, sym, ap₂, _∙_}
 use mathlib.Core.Bool.{Bool, true, false}
 use mathlib.Core.List.{List, [], _∷_}
-use native.Mathlib.Omega.{arith}
 use borrow.Author.Tests.{leb-true}
 use lib.ListN.{replicate}
 use lib.Dec.{ltb}
 use Rattle.lattice.specs.Order.{mostPrincipals}
 use Rattle.lattice.proofs.Tests.{and-l, and-r}
-use Rattle.store.specs.Result.{Result, ok, refuse, _>>=_, require, inTurn}
+use Rattle.store.specs.Result.{Result, ok, refuse, _>>=_}
 use Rattle.store.specs.Bytes.{table, filled}
 use Rattle.store.specs.Value.{opened, emptySlot}
-use Rattle.store.specs.Sheet.{Opening, Form, storeForm, nOf, mOf, ownerAt, slotValueAt, mostSlots, tablesOf, openingOf, sizesAllowed, slotChecked, bodyChecked, sheetChecked, storeSheet, orderOf}
+use Rattle.store.specs.Sheet.{Opening, Form, storeForm, nOf, mOf, ownerAt, slotValueAt, mostSlots, tablesOf, openingOf, sizesAllowed, slotChecked, sheetChecked, storeSheet, orderOf}
 use Rattle.store.specs.Held.{Sized, refusalOf, rowOf, rowAt, heldOf, openedOf, heldAfter}
-use Rattle.store.proofs.Result.{Any, post-ok, post-require, post-bind}
-use Rattle.store.proofs.InTurn.{Numbered, passed, require-ok}
+use Rattle.store.proofs.Result.{Refuses, Positive, post-map}
+use Rattle.store.proofs.InTurn.{passed, require-ok}
+use Rattle.store.proofs.Opening.{slot-checked, sheet-checked}
 use Rattle.store.proofs.Fill.{pick, table-same, entry-at}
 
 -- each refusal has a number that is not 0
-numbered-require : {A : Type 0} (b : Bool) (e : ℕ) (r : Result ℕ A) → 0 < e → Numbered r → Numbered (require b e r)
-numbered-require b e r h n = post-require Any (λ (e : ℕ). 0 < e) b e r (λ _. n) (λ _. h)
+pub slot-numbered : (f : Form) (s : List ℕ) (i : ℕ) → Refuses Positive (slotChecked f s i)
+slot-numbered f s i = post-map _ _ _ _ _ (slot-checked f s i) (λ _ _. tt) (λ _ p. p)
 
-numbered-ok : {A : Type 0} (a : A) → Numbered {A = A} (ok a)
-numbered-ok a = post-ok Any (λ (e : ℕ). 0 < e) a tt
-
-pub slot-numbered : (f : Form) (s : List ℕ) (i : ℕ) → Numbered (slotChecked f s i)
-unfolding slotChecked
-slot-numbered f s i =
-    numbered-require _ 4 _ (omega arith) (numbered-require _ 5 _ (omega arith) (numbered-ok tt))
-
-in-turn-numbered : (n : ℕ) (f : ℕ → Result ℕ (Unit {0})) → ((i : ℕ) → Numbered (f i)) → Numbered (inTurn n f)
-unfolding inTurn
-in-turn-numbered zero f h = numbered-ok tt
-in-turn-numbered (suc n) f h =
-    post-bind Any Any (λ (e : ℕ). 0 < e) (inTurn n f) (λ _. f n) (in-turn-numbered n f h) (λ _ _. h n)
-
-sheet-numbered : (f : Form) (s : List ℕ) → Numbered (sheetChecked f s)
-unfolding sheetChecked bodyChecked
-sheet-numbered f s =
-    numbered-require _ 1 _ (omega arith)
-    (numbered-require _ 2 _ (omega arith)
-    (numbered-require _ 1 _ (omega arith)
-    (numbered-require _ 3 _ (omega arith) (in-turn-numbered (mOf s) (slotChecked f s) (slot-numbered f s)))))
+sheet-numbered : (f : Form) (s : List ℕ) → Refuses Positive (sheetChecked f s)
+sheet-numbered f s = post-map _ _ _ _ _ (sheet-checked f s) (λ _ _. tt) (λ _ p. p)
 
 pub sizes-at : (s : List ℕ) (n m : ℕ) → n ≡ nOf s → m ≡ mOf s → sizesAllowed n m ≡ true → Sized s n m
 unfolding sizesAllowed
