@@ -1,0 +1,119 @@
+//! Times of both runners on one workload.
+
+use std::hint::black_box;
+use std::time::{Duration, Instant};
+
+use second_runner::Answer;
+
+use crate::proved;
+use crate::workloads::{Unit, Workload};
+
+/// How long one repetition takes at least: short runs are played many times.
+const LEAST: Duration = Duration::from_millis(20);
+
+type Runner = fn(&[u8], &[u8], u8, u32, &mut [u8]) -> Answer;
+
+/// The proved runner first.
+const RUNNERS: [Runner; 2] = [proved::run, second_runner::run];
+
+/// A workload under a rule, and the best times so far.
+pub struct Case<'a> {
+    pub workload: &'a Workload,
+    pub rule: u8,
+    /// The steps of one run.
+    pub steps: u32,
+    /// The runs of a repetition, by each runner.
+    runs: [u32; 2],
+    /// The time of one run in nanoseconds, by each runner.
+    best: [f64; 2],
+}
+
+impl<'a> Case<'a> {
+    /// A case that both runners agree on.
+    pub fn new(workload: &'a Workload, rule: u8) -> Case<'a> {
+        let mut case = Case {
+            workload,
+            rule,
+            steps: 0,
+            runs: [1; 2],
+            best: [f64::INFINITY; 2],
+        };
+        case.steps = case.agreed_steps();
+        case.runs = RUNNERS.map(|runner| case.enough_runs(runner));
+        case
+    }
+
+    /// The steps of a run, when both runners give the same answer and output.
+    fn agreed_steps(&self) -> u32 {
+        const UNTOUCHED: u8 = 0xA5;
+        let name = self.workload.name;
+        let [(answer, output), (expected, end)] = RUNNERS.map(|runner| {
+            let mut output = vec![UNTOUCHED; self.workload.output];
+            (self.play(runner, &mut output), output)
+        });
+        assert_eq!(answer, expected, "{name}: the answers differ");
+        assert_eq!(output, end, "{name}: the outputs differ");
+        let played = matches!(answer.number, 0 | 17);
+        assert!(played, "{name}: refused by {}", answer.number);
+        answer.steps
+    }
+
+    /// How many runs make a repetition long enough.
+    fn enough_runs(&self, runner: Runner) -> u32 {
+        let mut runs = 1;
+        while self.time_of(runner, runs) < LEAST {
+            runs *= 2;
+        }
+        runs
+    }
+
+    /// Times one repetition of each runner, in turn.
+    pub fn repeat(&mut self) {
+        for (place, runner) in RUNNERS.into_iter().enumerate() {
+            let runs = self.runs[place];
+            let time = self.time_of(runner, runs).as_secs_f64() * 1e9;
+            self.best[place] = self.best[place].min(time / f64::from(runs));
+        }
+    }
+
+    fn time_of(&self, runner: Runner, runs: u32) -> Duration {
+        let mut output = vec![0; self.workload.output];
+        let start = Instant::now();
+        for _ in 0..runs {
+            black_box(self.play(runner, &mut output));
+        }
+        start.elapsed()
+    }
+
+    fn play(&self, runner: Runner, output: &mut [u8]) -> Answer {
+        let store = black_box(&self.workload.store);
+        let programme = black_box(&self.workload.programme);
+        runner(store, programme, self.rule, self.workload.budget, output)
+    }
+
+    /// The best time of a step or a run by the proved runner, in nanoseconds.
+    pub fn proved(&self) -> f64 {
+        self.best[0] / self.units()
+    }
+
+    /// The same by the second runner.
+    pub fn second(&self) -> f64 {
+        self.best[1] / self.units()
+    }
+
+    pub fn ratio(&self) -> f64 {
+        self.proved() / self.second()
+    }
+
+    fn units(&self) -> f64 {
+        match self.workload.unit {
+            Unit::Step => f64::from(self.steps),
+            Unit::Run => 1.0,
+        }
+    }
+
+    /// Whole runs a second, by each runner.
+    pub fn runs_a_second(&self) -> [f64; 2] {
+        self.best.map(|time| 1e9 / time)
+    }
+}

@@ -1,0 +1,178 @@
+//! What is timed. Every run passes its rule, and finishes or is spent.
+
+use crate::code::*;
+use crate::sheets::{full_store, programme, store_of_one};
+
+/// What a time is divided by.
+#[derive(Debug, Clone, Copy, PartialEq, Eq)]
+pub enum Unit {
+    Step,
+    Run,
+}
+
+pub struct Workload {
+    pub name: &'static str,
+    pub unit: Unit,
+    pub store: Vec<u8>,
+    pub programme: Vec<u8>,
+    pub budget: u32,
+    /// The bytes of the output.
+    pub output: usize,
+}
+
+impl Workload {
+    const MOST_BUDGET: u32 = 1_000_000;
+
+    fn new(name: &'static str, values: &[Value], blocks: &[Code]) -> Workload {
+        Workload {
+            name,
+            unit: Unit::Step,
+            store: store_of_one(values),
+            programme: programme(blocks),
+            budget: Workload::MOST_BUDGET,
+            output: values.len() * Value::WIDTH,
+        }
+    }
+}
+
+/// "At most 8 bytes 11 stand in a row."
+const MOST_READS: usize = 8;
+const MOST_BLOCKS: usize = 64;
+const MOST_CODE: usize = 16_384;
+
+/// (a) to (d): those of which a ratio is asked.
+pub fn of_speed() -> Vec<Workload> {
+    vec![
+        assignments(),
+        nested_ifs(),
+        chains_of_reads(),
+        short_blocks(),
+    ]
+}
+
+fn assignments() -> Workload {
+    let body = sequence(&[
+        assign(0, literal(Value::Integer(7))),
+        assign(1, read(0)),
+        assign(2, literal(Value::Integer(9))),
+        assign(3, read(2)),
+    ]);
+    let values = [Value::Integer(0); 4];
+    Workload::new("a  assignments in a loop", &values, &[forever(body)])
+}
+
+fn nested_ifs() -> Workload {
+    const DEEP: u32 = 8;
+    let innermost = assign(DEEP, literal(Value::Integer(1)));
+    // Then-part and else-part are taken in turn.
+    let body = (0..DEEP).rev().fold(innermost, |inner, slot| {
+        if slot % 2 == 0 {
+            if_command(read(slot), inner, skip())
+        } else {
+            if_command(read(slot), skip(), inner)
+        }
+    });
+    let mut values: Vec<Value> = (0..DEEP).map(|slot| Value::Truth(slot % 2 == 0)).collect();
+    values.push(Value::Integer(0));
+    Workload::new("b  ifs nested 8 deep", &values, &[forever(body)])
+}
+
+/// Slots from `first` on: views to be read in a row, and what the last read
+/// gives.
+fn chain(first: u32, last: Value) -> Vec<Value> {
+    let mut values: Vec<Value> = (1..MOST_READS as u32)
+        .map(|next| Value::ReadView(first + next))
+        .collect();
+    values.push(last);
+    values
+}
+
+fn chains_of_reads() -> Workload {
+    let mut values = chain(0, Value::Truth(true));
+    let slot = values.len() as u32;
+    values.push(Value::Integer(0));
+    let all = reads(MOST_READS, 0);
+    let code = while_command(all.clone(), assign(slot, all));
+    Workload::new("c  8 reads in a row", &values, &[code])
+}
+
+fn short_blocks() -> Workload {
+    let block = sequence(&[
+        assign(0, literal(Value::Integer(7))),
+        assign(1, read(0)),
+        assign(2, literal(Value::Integer(9))),
+        assign(3, read(2)),
+    ]);
+    let values = [Value::Integer(0); 4];
+    Workload::new("d  64 short blocks", &values, &vec![block; MOST_BLOCKS])
+}
+
+/// (e): pairs of one loop, first with a short part that isn't taken, then with
+/// a long one.
+pub fn of_skipping() -> Vec<[Workload; 2]> {
+    const LONG: usize = 16_000;
+    let (short, long) = (skip(), filled_widely(LONG));
+    vec![
+        [
+            then_part_skipped("e  short then-part skipped", &short),
+            then_part_skipped("e  long then-part skipped", &long),
+        ],
+        [
+            else_part_skipped("e  short else-part skipped", &short),
+            else_part_skipped("e  long else-part skipped", &long),
+        ],
+    ]
+}
+
+fn then_part_skipped(name: &'static str, part: &Code) -> Workload {
+    let taken = assign(1, literal(Value::Integer(1)));
+    let body = if_command(read(0), part.clone(), taken);
+    let values = [Value::Truth(false), Value::Integer(0)];
+    Workload::new(name, &values, &[forever(body)])
+}
+
+fn else_part_skipped(name: &'static str, part: &Code) -> Workload {
+    let taken = assign(1, literal(Value::Integer(1)));
+    let body = if_command(read(0), taken, part.clone());
+    let values = [Value::Truth(true), Value::Integer(0)];
+    Workload::new(name, &values, &[forever(body)])
+}
+
+/// (f) and (g): times with no demand on them.
+pub fn of_limits() -> Vec<Workload> {
+    vec![full_sheets(), chains_on_both_sides(), skips_for_a_step()]
+}
+
+/// Judging sheets as large as they may be: no step is allowed.
+fn full_sheets() -> Workload {
+    let block = filled(MOST_CODE / MOST_BLOCKS);
+    Workload {
+        name: "f  full sheets, budget 0",
+        unit: Unit::Run,
+        store: full_store(),
+        programme: programme(&vec![block; MOST_BLOCKS]),
+        budget: 0,
+        output: 256 * Value::WIDTH,
+    }
+}
+
+/// The step that evaluates most: 8 reads for the target and 8 for the value.
+fn chains_on_both_sides() -> Workload {
+    let mut values = chain(0, Value::WriteView(2 * MOST_READS as u32));
+    let second = values.len() as u32;
+    values.extend(chain(second, Value::Integer(5)));
+    values.push(Value::Integer(0));
+    let each = assignment(reads(MOST_READS, 0), reads(MOST_READS, second));
+    let body = sequence(&vec![each; 64]);
+    Workload::new("g  8 reads, target and value", &values, &[forever(body)])
+}
+
+/// The step that enters most commands: a skip is none, so a guard may stand
+/// for a body full of them.
+fn skips_for_a_step() -> Workload {
+    let body = sequence(&vec![sequence(&vec![skip(); 255]); 63]);
+    Workload {
+        budget: 400,
+        ..Workload::new("g  16,065 skips a step", &[], &[forever(body)])
+    }
+}

@@ -1,0 +1,403 @@
+//! Programmes with a meaning: targets that are write views of real slots,
+//! guards that are truth values, loops that end.
+//!
+//! The author rehearses what it has written, so it knows what the slots hold,
+//! and minds the rules as far as its care goes: with all of it a programme
+//! finishes under every rule, with less some step is forbidden.
+
+mod loops;
+
+use crate::code::{Block, Command, Expression};
+use crate::random::Random;
+use crate::rehearsal::Rehearsal;
+use crate::sheets::{Store, Table};
+use crate::values::{Kind, Value};
+
+/// In percent, how often the author minds what a step is refused for.
+#[derive(Debug, Clone, Copy)]
+pub struct Care {
+    /// 13
+    pub kinds: usize,
+    /// 14
+    pub authority: usize,
+    /// 15
+    pub views: usize,
+    /// 16 by the label of a target or a value.
+    pub labels: usize,
+    /// 16 by the label of the branch.
+    pub branches: usize,
+}
+
+impl Care {
+    pub const FULL: Care = Care {
+        kinds: 100,
+        authority: 100,
+        views: 100,
+        labels: 100,
+        branches: 100,
+    };
+
+    pub fn random(random: &mut Random) -> Care {
+        if random.one_in(3) {
+            return Care::FULL;
+        }
+        Care {
+            kinds: random.pick(&[100, 100, 100, 99, 97, 80]),
+            authority: random.pick(&[100, 100, 98, 90, 50]),
+            views: random.pick(&[100, 98, 90, 50]),
+            labels: random.pick(&[100, 100, 90, 60, 0]),
+            branches: random.pick(&[100, 100, 60, 0]),
+        }
+    }
+}
+
+pub struct Author<'a> {
+    random: &'a mut Random,
+    stage: Rehearsal<'a>,
+    care: Care,
+    region: u8,
+    endorsed: bool,
+    /// The most reads in a row.
+    most_reads: usize,
+}
+
+impl<'a> Author<'a> {
+    pub fn new(random: &'a mut Random, store: &'a Store, care: Care) -> Author<'a> {
+        Author {
+            random,
+            stage: Rehearsal {
+                table: &store.table,
+                values: store.values.clone(),
+            },
+            care,
+            region: 0,
+            endorsed: false,
+            most_reads: Expression::MOST_READS,
+        }
+    }
+
+    pub fn random(&mut self) -> &mut Random {
+        self.random
+    }
+
+    pub fn table(&self) -> &'a Table {
+        self.stage.table
+    }
+
+    /// Blocks of any region, some endorsed, as many as there is code for. Now
+    /// and then one read more than allowed may stand in a row.
+    pub fn programme(&mut self) -> Vec<Block> {
+        self.most_reads += usize::from(self.random.one_in(60));
+        let count = match self.random.below(20) {
+            0 => 0,
+            1..=12 => self.random.between(1, 3),
+            13..=18 => self.random.between(3, 7),
+            _ => self.random.between(1, Block::MOST),
+        };
+        let mut code_left = Block::MOST_CODE;
+        let mut blocks = Vec::new();
+        for _ in 0..count {
+            let block = self.any_block();
+            let Some(left) = code_left.checked_sub(block.command.length()) else {
+                break;
+            };
+            code_left = left;
+            blocks.push(block);
+        }
+        blocks
+    }
+
+    pub fn any_block(&mut self) -> Block {
+        let endorsed = self.random.one_in(4);
+        let region = self.any_region();
+        self.block(region, endorsed)
+    }
+
+    /// Often a region that may write some slot.
+    pub fn any_region(&mut self) -> u8 {
+        let table = self.stage.table;
+        match self.random.below(4) {
+            0 => table.lattice.top(),
+            1 => self.random.pick_any(&table.owners).unwrap_or(0),
+            _ => self.random.below(table.lattice.principals()) as u8,
+        }
+    }
+
+    pub fn block(&mut self, region: u8, endorsed: bool) -> Block {
+        let depth = self.random.below(5);
+        self.block_of_depth(region, endorsed, depth)
+    }
+
+    /// A block whose own commands nest about this deep.
+    pub fn block_of_depth(&mut self, region: u8, endorsed: bool, depth: usize) -> Block {
+        self.region = region;
+        self.endorsed = endorsed;
+        let top = self.stage.table.lattice.top();
+        let command = if depth > 0 && self.random.percent(60) {
+            self.sequence(depth - 1, top)
+        } else {
+            self.command(depth, top)
+        };
+        Block {
+            region,
+            endorsed,
+            command,
+        }
+    }
+
+    /// Plays a block that another author wrote.
+    pub fn watch(&mut self, block: &Block) {
+        self.stage.play(&block.command);
+    }
+
+    /// A command under this branch label. The rehearsal has played it.
+    fn command(&mut self, depth: usize, branch: u8) -> Command {
+        let forms = if depth == 0 { 11 } else { 20 };
+        match self.random.below(forms) {
+            0 => Command::Skip,
+            1..=10 => self.assignment(branch),
+            11..=13 => self.sequence(depth - 1, branch),
+            14..=17 => self.branching(depth - 1, branch),
+            _ => self.looping(depth - 1, branch),
+        }
+    }
+
+    fn sequence(&mut self, depth: usize, branch: u8) -> Command {
+        let count = self.random.between(2, 4);
+        Command::Sequence((0..count).map(|_| self.command(depth, branch)).collect())
+    }
+
+    fn assignment(&mut self, branch: u8) -> Command {
+        let Some(slot) = self.writable(branch) else {
+            return self.without_slot();
+        };
+        let floor = self.floor(slot);
+        let target = self.target(slot, floor);
+        let value = self.value_for(slot, floor);
+        self.played(Command::Assign { target, value })
+    }
+
+    /// Where no slot may be written there is mostly nothing to do.
+    fn without_slot(&mut self) -> Command {
+        if self.minds(self.care.kinds) {
+            return Command::Skip;
+        }
+        let (target, value) = (self.any_expression(), self.any_expression());
+        self.played(Command::Assign { target, value })
+    }
+
+    fn branching(&mut self, depth: usize, branch: u8) -> Command {
+        let guard = self.guard();
+        let inner = self.inside(branch, &guard);
+        let then_part = self.tried(depth, inner);
+        let else_part = self.tried(depth, inner);
+        self.played(Command::if_else(guard, then_part, else_part))
+    }
+
+    /// A command that fits here; what it did is forgotten.
+    fn tried(&mut self, depth: usize, branch: u8) -> Command {
+        let before = self.stage.values.clone();
+        let command = self.command(depth, branch);
+        self.stage.values = before;
+        command
+    }
+
+    fn played(&mut self, command: Command) -> Command {
+        self.stage.play(&command);
+        command
+    }
+
+    fn minds(&mut self, care: usize) -> bool {
+        self.random.percent(care)
+    }
+
+    /// The branch label inside a part.
+    fn inside(&self, branch: u8, guard: &Expression) -> u8 {
+        match self.stage.evaluate(guard) {
+            Some((_, label)) => self.stage.table.lattice.meet(branch, label),
+            None => branch,
+        }
+    }
+
+    /// A slot that the region may write, under this branch label too.
+    fn writable(&mut self, branch: u8) -> Option<u8> {
+        let by_region = self.minds(self.care.authority);
+        let by_branch = self.minds(self.care.branches) && !self.endorsed;
+        let (table, region) = (self.stage.table, self.region);
+        let below = |slot, upper| table.lattice.at_or_below(table.owner(slot), upper);
+        let slots = slots_where(&self.stage.values, |slot, _| {
+            (!by_region || below(slot, region)) && (!by_branch || below(slot, branch))
+        });
+        self.random.pick_any(&slots)
+    }
+
+    /// The owner that labels must reach for this slot, where that is minded.
+    fn floor(&mut self, slot: u8) -> Option<u8> {
+        let minded = self.minds(self.care.labels) && !self.endorsed;
+        minded.then(|| self.stage.table.owner(slot))
+    }
+
+    fn target(&mut self, slot: u8, floor: Option<u8>) -> Expression {
+        if !self.minds(self.care.kinds) {
+            return self.any_expression();
+        }
+        let wanted = Value::WriteView(slot);
+        let read = match self.random.percent(40) {
+            true => self.reading(|value| value == wanted, floor),
+            false => None,
+        };
+        read.unwrap_or(Expression::literal(wanted))
+    }
+
+    /// Mostly the slot keeps its kind, so that later reads find what they
+    /// expect.
+    fn value_for(&mut self, slot: u8, floor: Option<u8>) -> Expression {
+        let kind = if self.random.percent(70) {
+            self.stage.values[usize::from(slot)].kind()
+        } else {
+            Kind::random(self.random, self.stage.values.len())
+        };
+        self.expression_of(kind, floor)
+    }
+
+    fn guard(&mut self) -> Expression {
+        if self.minds(self.care.kinds) {
+            self.expression_of(Kind::Truth, None)
+        } else {
+            self.any_expression()
+        }
+    }
+
+    fn expression_of(&mut self, kind: Kind, floor: Option<u8>) -> Expression {
+        if !self.minds(self.care.kinds) {
+            return self.any_expression();
+        }
+        let views_minded = self.minds(self.care.views);
+        let (table, region) = (self.stage.table, self.region);
+        let allowed = |value| match value {
+            Value::WriteView(slot) if views_minded => {
+                table.lattice.at_or_below(table.owner(slot), region)
+            }
+            _ => true,
+        };
+        if self.random.percent(65) {
+            let found = self.reading(|value| value.kind() == kind && allowed(value), floor);
+            if let Some(expression) = found {
+                return expression;
+            }
+        }
+        let literal = Value::random_of(self.random, kind, self.stage.values.len());
+        if allowed(literal) {
+            Expression::literal(literal)
+        } else {
+            Expression::literal(Value::Integer(0))
+        }
+    }
+
+    /// Reads in a row that give such a value, through slots whose owners stand
+    /// at or above the floor.
+    fn reading(&mut self, wanted: impl Fn(Value) -> bool, floor: Option<u8>) -> Option<Expression> {
+        let (table, values) = (self.stage.table, &self.stage.values);
+        let high =
+            |slot| floor.is_none_or(|floor| table.lattice.at_or_below(floor, table.owner(slot)));
+        let ends = slots_where(values, |slot, value| wanted(value) && high(slot));
+        let mut slot = self.random.pick_any(&ends)?;
+        let mut reads = 1;
+        let go_on = self.random.pick(&[30, 30, 60, 100]);
+        while reads < self.most_reads && self.random.percent(go_on) {
+            let seen_from = slots_where(values, |from, value| {
+                value == Value::ReadView(slot) && high(from)
+            });
+            match self.random.pick_any(&seen_from) {
+                Some(from) => slot = from,
+                None => break,
+            }
+            reads += 1;
+        }
+        let literal = Value::ReadView(slot);
+        Some(Expression { reads, literal })
+    }
+
+    /// Any expression, whatever it gives.
+    fn any_expression(&mut self) -> Expression {
+        let literal = Value::random(self.random, self.stage.values.len());
+        let reads = match self.random.below(20) {
+            0..=9 => 0,
+            10..=18 => self.random.between(1, 3),
+            _ => self.random.between(1, self.most_reads),
+        };
+        Expression { reads, literal }
+    }
+}
+
+fn slots_where(values: &[Value], test: impl Fn(u8, Value) -> bool) -> Vec<u8> {
+    let all = values.iter().enumerate();
+    all.map(|(slot, value)| (slot as u8, *value))
+        .filter(|(slot, value)| test(*slot, *value))
+        .map(|(slot, _)| slot)
+        .collect()
+}
+
+#[cfg(test)]
+mod tests {
+    use super::*;
+    use crate::code::programme_sheet;
+    use crate::second;
+
+    const RULES: [u8; 4] = [0, 1, 2, 3];
+
+    /// How often each number is the answer under a rule to programmes that
+    /// were written with this care.
+    fn answers(care: Care, rule: u8) -> [u32; 18] {
+        let mut counts = [0; 18];
+        for case in 0..1_000 {
+            let mut random = Random::of_case(11, case);
+            let store = Store::random(&mut random);
+            let blocks = Author::new(&mut random, &store, care).programme();
+            let sheet = programme_sheet(&blocks).bytes;
+            let mut output = vec![0; store.table.slots() * Value::WIDTH];
+            let answer = second::run(&store.bytes(), &sheet, rule, 2_000, &mut output);
+            counts[answer.number as usize] += 1;
+        }
+        counts
+    }
+
+    #[test]
+    fn with_full_care_most_programmes_finish_under_every_rule() {
+        for rule in RULES {
+            let counts = answers(Care::FULL, rule);
+            assert!(counts[0] > 800, "rule {rule}: {counts:?}");
+        }
+    }
+
+    #[test]
+    fn what_is_not_minded_is_refused() {
+        let kinds = Care {
+            kinds: 70,
+            ..Care::FULL
+        };
+        let authority = Care {
+            authority: 0,
+            ..Care::FULL
+        };
+        let views = Care {
+            views: 0,
+            ..Care::FULL
+        };
+        let labels = Care {
+            labels: 0,
+            ..Care::FULL
+        };
+        let branches = Care {
+            branches: 0,
+            ..Care::FULL
+        };
+        assert!(RULES.iter().all(|rule| answers(kinds, *rule)[13] > 200));
+        assert!([0, 2, 3]
+            .iter()
+            .all(|rule| answers(authority, *rule)[14] > 200));
+        assert!(answers(views, 1)[15] > 50);
+        assert!([2, 3].iter().all(|rule| answers(labels, *rule)[16] > 50));
+        assert!(answers(branches, 3)[16] > answers(branches, 2)[16] + 50);
+    }
+}

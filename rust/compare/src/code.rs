@@ -1,0 +1,183 @@
+//! Programme sheets: commands as trees, and their bytes.
+
+use crate::sheets::{Part, Sheet};
+use crate::values::Value;
+
+/// So many reads in a row of a literal.
+#[derive(Debug, Clone, Copy, PartialEq, Eq)]
+pub struct Expression {
+    pub reads: usize,
+    pub literal: Value,
+}
+
+impl Expression {
+    pub const MOST_READS: usize = 8;
+    pub const LITERAL: u8 = 0x10;
+    pub const READ: u8 = 0x11;
+
+    pub fn literal(literal: Value) -> Expression {
+        Expression { reads: 0, literal }
+    }
+
+    pub fn read_of(slot: u8) -> Expression {
+        Expression {
+            reads: 1,
+            literal: Value::ReadView(slot),
+        }
+    }
+
+    fn write_to(&self, sheet: &mut Sheet) {
+        sheet.push(Part::Expression, &vec![Expression::READ; self.reads]);
+        sheet.push(Part::Expression, &[Expression::LITERAL]);
+        sheet.push_value(self.literal);
+    }
+}
+
+#[derive(Debug, Clone)]
+pub enum Command {
+    Skip,
+    Assign {
+        target: Expression,
+        value: Expression,
+    },
+    Sequence(Vec<Command>),
+    If {
+        guard: Expression,
+        then_part: Box<Command>,
+        else_part: Box<Command>,
+    },
+    While {
+        guard: Expression,
+        body: Box<Command>,
+    },
+}
+
+impl Command {
+    pub const MOST_DEPTH: usize = 32;
+    pub const MOST_IN_SEQUENCE: usize = 255;
+    pub const SKIP: u8 = 0x20;
+    pub const ASSIGN: u8 = 0x21;
+    pub const SEQUENCE: u8 = 0x22;
+    pub const IF: u8 = 0x23;
+    pub const WHILE: u8 = 0x24;
+
+    /// An assignment to a slot through a literal write view.
+    pub fn set(slot: u8, value: Expression) -> Command {
+        Command::Assign {
+            target: Expression::literal(Value::WriteView(slot)),
+            value,
+        }
+    }
+
+    /// These commands in order, as one.
+    pub fn all(mut commands: Vec<Command>) -> Command {
+        match commands.len() {
+            0 => Command::Skip,
+            1 => commands.remove(0),
+            _ => Command::Sequence(commands),
+        }
+    }
+
+    pub fn if_else(guard: Expression, then_part: Command, else_part: Command) -> Command {
+        Command::If {
+            guard,
+            then_part: Box::new(then_part),
+            else_part: Box::new(else_part),
+        }
+    }
+
+    pub fn while_do(guard: Expression, body: Command) -> Command {
+        Command::While {
+            guard,
+            body: Box::new(body),
+        }
+    }
+
+    pub fn write_to(&self, sheet: &mut Sheet) {
+        match self {
+            Command::Skip => sheet.push(Part::Command, &[Command::SKIP]),
+            Command::Assign { target, value } => {
+                sheet.push(Part::Command, &[Command::ASSIGN]);
+                target.write_to(sheet);
+                value.write_to(sheet);
+            }
+            Command::Sequence(commands) => {
+                let count = u8::try_from(commands.len()).expect("at most 255 commands");
+                sheet.push(Part::Command, &[Command::SEQUENCE]);
+                sheet.push(Part::Count, &[count]);
+                commands.iter().for_each(|inner| inner.write_to(sheet));
+            }
+            Command::If {
+                guard,
+                then_part,
+                else_part,
+            } => {
+                sheet.push(Part::Command, &[Command::IF]);
+                guard.write_to(sheet);
+                then_part.write_to(sheet);
+                else_part.write_to(sheet);
+            }
+            Command::While { guard, body } => {
+                sheet.push(Part::Command, &[Command::WHILE]);
+                guard.write_to(sheet);
+                body.write_to(sheet);
+            }
+        }
+    }
+
+    /// The number of its bytes.
+    pub fn length(&self) -> usize {
+        let mut sheet = Sheet::default();
+        self.write_to(&mut sheet);
+        sheet.bytes.len()
+    }
+}
+
+#[derive(Debug, Clone)]
+pub struct Block {
+    pub region: u8,
+    pub endorsed: bool,
+    pub command: Command,
+}
+
+impl Block {
+    pub const MOST: usize = 64;
+    pub const MOST_CODE: usize = 16_384;
+    pub const ENDORSED: u8 = 0x80;
+
+    fn region_byte(&self) -> u8 {
+        if self.endorsed {
+            self.region | Block::ENDORSED
+        } else {
+            self.region
+        }
+    }
+}
+
+/// The sheet of these blocks, of which there are at most 255.
+pub fn programme_sheet(blocks: &[Block]) -> Sheet {
+    let regions: Vec<u8> = blocks.iter().map(Block::region_byte).collect();
+    let codes: Vec<Sheet> = blocks
+        .iter()
+        .map(|block| {
+            let mut code = Sheet::default();
+            block.command.write_to(&mut code);
+            code
+        })
+        .collect();
+    sheet_of_codes(&regions, &codes)
+}
+
+/// The sheet of blocks with any code.
+pub fn sheet_of_codes(regions: &[u8], codes: &[Sheet]) -> Sheet {
+    let mut sheet = Sheet::default();
+    sheet.push(Part::Size, &[regions.len() as u8]);
+    let total = codes.iter().map(|code| code.bytes.len()).sum();
+    sheet.push_size(Part::Size, total);
+    sheet.push(Part::Region, regions);
+    for code in codes {
+        sheet.push_size(Part::Length, code.bytes.len());
+    }
+    codes.iter().for_each(|code| sheet.append(code));
+    sheet
+}

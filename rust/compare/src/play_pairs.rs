@@ -1,0 +1,343 @@
+//! Pairs of runs under full provenance: what an adversary can do is not seen
+//! in a protected slot.
+//!
+//! The adversary is any one principal. A slot is protected when its owner does
+//! not stand at or below the adversary; a block is within reach when its
+//! region does. Two stores agree in the protected slots, a programme has no
+//! endorsed block, and in each of two replacements the blocks within reach are
+//! any blocks within reach. If both runs finish, they end alike in the
+//! protected slots.
+
+use std::fmt::{self, Display, Formatter};
+
+use crate::author::{Author, Care};
+use crate::calls::{Call, Difference, Run, Seen};
+use crate::code::{programme_sheet, Block};
+use crate::lattices::Lattice;
+use crate::play_runs::MOST_BUDGET;
+use crate::random::Random;
+use crate::sheets::{Store, Table};
+use crate::values::{Kind, Value};
+
+/// The rule that isolates.
+const FULL_PROVENANCE: u8 = 3;
+/// Under the others some pairs must end differently in a protected slot, or
+/// pairs like these would show nothing.
+const RULES: [u8; 4] = [0, 1, 2, FULL_PROVENANCE];
+
+/// How many pairs of runs under a rule did what.
+#[derive(Debug, Clone, Copy, Default)]
+pub struct Counts {
+    pub finished: u64,
+    /// Finished, and some slot ends differently.
+    pub told_apart: u64,
+    /// Finished, and a protected slot doesn't end as it began.
+    pub written: u64,
+    /// Finished, and a protected slot ends differently.
+    pub leaked: u64,
+}
+
+impl Display for Counts {
+    fn fmt(&self, out: &mut Formatter) -> fmt::Result {
+        let Counts {
+            finished,
+            told_apart,
+            written,
+            leaked,
+        } = self;
+        write!(
+            out,
+            "{finished} pairs finish; {written} of them write a protected slot, \
+             {told_apart} end differently in some slot, {leaked} in a protected one"
+        )
+    }
+}
+
+#[derive(Debug, Clone, Default)]
+pub struct Played {
+    pub pairs: u64,
+    rules: [Counts; RULES.len()],
+}
+
+impl Played {
+    pub fn rules(&self) -> impl Iterator<Item = (u8, Counts)> + '_ {
+        RULES.into_iter().zip(self.rules)
+    }
+
+    /// What is wrong with these counts, in words.
+    pub fn complaints(&self) -> Vec<String> {
+        let enough = |counts: Counts| counts.finished > self.pairs / 10;
+        let telling = |counts: Counts| counts.told_apart > 0 && counts.written > 0;
+        let idle = self
+            .rules()
+            .filter(|(_, counts)| !enough(*counts) || !telling(*counts))
+            .map(|(rule, _)| format!("rule {rule}: too few pairs finish or do anything"));
+        let blind = self
+            .rules()
+            .filter(|(rule, counts)| *rule != FULL_PROVENANCE && counts.leaked == 0)
+            .map(|(rule, _)| format!("rule {rule}: no pair ends differently where protected"));
+        idle.chain(blind).collect()
+    }
+}
+
+/// Why the play stopped.
+#[derive(Debug, Clone)]
+pub enum Stopped {
+    Differs(Box<Difference>),
+    Leaks(Box<Leak>),
+}
+
+/// Two runs under full provenance that end differently in a protected slot.
+#[derive(Debug, Clone)]
+pub struct Leak {
+    adversary: u8,
+    slot: usize,
+    runs: [(Call, Seen); 2],
+}
+
+impl Display for Leak {
+    fn fmt(&self, out: &mut Formatter) -> fmt::Result {
+        let (adversary, slot) = (self.adversary, self.slot);
+        writeln!(out, "adversary {adversary}: slot {slot} ends differently")?;
+        for (call, seen) in &self.runs {
+            write!(out, "{call}")?;
+            writeln!(out, "proved runner: {seen}")?;
+        }
+        Ok(())
+    }
+}
+
+/// One pair: two stores and two replacements of one programme.
+struct Pair {
+    adversary: u8,
+    stores: [Store; 2],
+    replacements: [Vec<Block>; 2],
+    budgets: [u32; 2],
+}
+
+/// Plays so many pairs under each rule.
+pub fn play(seed: u64, count: u64) -> Result<Played, Stopped> {
+    let mut played = Played::default();
+    for case in 0..count {
+        let pair = Pair::random(&mut Random::of_case(seed, case));
+        played.pairs += 1;
+        for (place, rule) in RULES.into_iter().enumerate() {
+            pair.play(rule, &mut played.rules[place])?;
+        }
+    }
+    Ok(played)
+}
+
+impl Pair {
+    fn random(random: &mut Random) -> Pair {
+        let (adversary, table) = random_table(random);
+        let first = Store::with_table(random, table);
+        let second = altered(random, &first, adversary);
+        let stores = [first, second];
+        let care = Care {
+            authority: random.pick(&[100, 100, 95, 85]),
+            labels: random.pick(&[100, 90, 60, 0]),
+            branches: random.pick(&[100, 60, 0]),
+            ..Care::FULL
+        };
+        let replacements = random_replacements(random, &stores, adversary, care);
+        let budgets = [random_budget(random), random_budget(random)];
+        Pair {
+            adversary,
+            stores,
+            replacements,
+            budgets,
+        }
+    }
+
+    fn play(&self, rule: u8, counts: &mut Counts) -> Result<(), Stopped> {
+        let calls = [0, 1].map(|side| self.call(side, rule));
+        let seen = |call: &Call| call.compare().map_err(Stopped::Differs);
+        let ends = [seen(&calls[0])?, seen(&calls[1])?];
+        if ends.iter().any(|end| end.answer.number != 0) {
+            return Ok(());
+        }
+        counts.finished += 1;
+        counts.told_apart += u64::from(ends[0].output() != ends[1].output());
+        counts.written += u64::from(self.wrote_protected(&ends));
+        let Some(slot) = self.leak(&ends) else {
+            return Ok(());
+        };
+        counts.leaked += 1;
+        if rule != FULL_PROVENANCE {
+            return Ok(());
+        }
+        let [one, other] = calls;
+        let [one_end, other_end] = ends;
+        Err(Stopped::Leaks(Box::new(Leak {
+            adversary: self.adversary,
+            slot,
+            runs: [(one, one_end), (other, other_end)],
+        })))
+    }
+
+    fn call(&self, side: usize, rule: u8) -> Call {
+        let store = &self.stores[side];
+        Call::Run(Run {
+            store: store.bytes(),
+            programme: programme_sheet(&self.replacements[side]).bytes,
+            rule,
+            budget: self.budgets[side],
+            output_length: store.table.slots() * Value::WIDTH,
+        })
+    }
+
+    fn protected(&self) -> impl Iterator<Item = usize> + '_ {
+        let table = &self.stores[0].table;
+        let test = |slot: &usize| is_protected(table, *slot, self.adversary);
+        (0..table.slots()).filter(test)
+    }
+
+    /// The first protected slot that ends differently.
+    fn leak(&self, ends: &[Seen; 2]) -> Option<usize> {
+        let at = |side: usize, slot| slot_bytes(ends[side].output(), slot);
+        self.protected().find(|slot| at(0, *slot) != at(1, *slot))
+    }
+
+    fn wrote_protected(&self, ends: &[Seen; 2]) -> bool {
+        let sides = self.stores.iter().zip(ends);
+        sides.into_iter().any(|(store, end)| {
+            let opening = store.bytes();
+            let values = &opening[opening.len() - end.output().len()..];
+            self.protected()
+                .any(|slot| slot_bytes(values, slot) != slot_bytes(end.output(), slot))
+        })
+    }
+}
+
+fn slot_bytes(output: &[u8], slot: usize) -> &[u8] {
+    &output[slot * Value::WIDTH..(slot + 1) * Value::WIDTH]
+}
+
+fn is_protected(table: &Table, slot: usize, adversary: u8) -> bool {
+    !table.lattice.at_or_below(table.owners[slot], adversary)
+}
+
+/// An adversary that isn't the top, and some slots.
+fn random_table(random: &mut Random) -> (u8, Table) {
+    let lattice = loop {
+        let lattice = Lattice::random(random);
+        if lattice.principals() > 1 {
+            break lattice;
+        }
+    };
+    let top = lattice.top();
+    let adversary = random.pick(&lattice.principals_where(|principal| principal != top));
+    let slots = random.between(2, 12);
+    (adversary, Table::with_slots(random, lattice, slots))
+}
+
+/// The same store with other values in slots that aren't protected, mostly of
+/// the same kinds, so that runs go on.
+fn altered(random: &mut Random, store: &Store, adversary: u8) -> Store {
+    let mut other = store.clone();
+    let slots = store.table.slots();
+    for (slot, value) in other.values.iter_mut().enumerate() {
+        if is_protected(&store.table, slot, adversary) || random.one_in(3) {
+            continue;
+        }
+        let kind = match random.one_in(12) {
+            true => Kind::random(random, slots),
+            false => value.kind(),
+        };
+        *value = Value::random_of(random, kind, slots);
+    }
+    other
+}
+
+/// Enough for runs that end, sometimes too little.
+fn random_budget(random: &mut Random) -> u32 {
+    match random.below(20) {
+        0 => random.below(12) as u32,
+        _ if random.one_in(400) => MOST_BUDGET,
+        _ => random.between(300, 1_000) as u32,
+    }
+}
+
+/// Two replacements of a programme with no endorsed block. They share the
+/// blocks outside the adversary's reach and now and then one within it.
+fn random_replacements(
+    random: &mut Random,
+    stores: &[Store; 2],
+    adversary: u8,
+    care: Care,
+) -> [Vec<Block>; 2] {
+    let mut other_random = random.split();
+    let mut one = Author::new(random, &stores[0], care);
+    let mut other = Author::new(&mut other_random, &stores[1], care);
+    let mut replacements = [Vec::new(), Vec::new()];
+    for _ in 0..one.random().between(1, 7) {
+        let (block, again) = if one.random().one_in(2) {
+            let block = block_within_reach(&mut one, adversary);
+            (block, one.random().one_in(6))
+        } else {
+            (block_outside_reach(&mut one, adversary), true)
+        };
+        if again {
+            other.watch(&block);
+            replacements[1].push(block.clone());
+        } else {
+            replacements[1].push(block_within_reach(&mut other, adversary));
+        }
+        replacements[0].push(block);
+    }
+    replacements
+}
+
+fn block_within_reach(author: &mut Author, adversary: u8) -> Block {
+    let lattice = &author.table().lattice;
+    let regions = lattice.principals_where(|region| lattice.at_or_below(region, adversary));
+    let region = author.random().pick(&regions);
+    let endorsed = author.random().one_in(2);
+    author.block(region, endorsed)
+}
+
+fn block_outside_reach(author: &mut Author, adversary: u8) -> Block {
+    let lattice = &author.table().lattice;
+    let regions = lattice.principals_where(|region| !lattice.at_or_below(region, adversary));
+    let region = author.random().pick(&regions);
+    author.block(region, false)
+}
+
+#[cfg(test)]
+mod tests {
+    use super::*;
+    use crate::DEFAULT_SEED;
+    use std::slice;
+
+    #[test]
+    fn pairs_finish_and_other_rules_leak() {
+        let played = play(DEFAULT_SEED, 5_000).expect("no difference and no leak");
+        let complaints = played.complaints();
+        assert!(complaints.is_empty(), "{complaints:?}");
+    }
+
+    #[test]
+    fn a_pair_differs_only_where_the_adversary_reaches() {
+        for case in 0..500 {
+            let pair = Pair::random(&mut Random::of_case(13, case));
+            let [one, other] = &pair.stores;
+            assert_eq!(one.table.sheet().bytes, other.table.sheet().bytes);
+            assert!(pair
+                .protected()
+                .all(|slot| one.values[slot] == other.values[slot]));
+            let [blocks, others] = &pair.replacements;
+            assert_eq!(blocks.len(), others.len());
+            for (block, other) in blocks.iter().zip(others) {
+                let within = |block: &Block| {
+                    let lattice = &one.table.lattice;
+                    lattice.at_or_below(block.region, pair.adversary)
+                };
+                assert_eq!(within(block), within(other));
+                let sheet = |block| programme_sheet(slice::from_ref(block)).bytes;
+                let same = sheet(block) == sheet(other);
+                assert!(within(block) || same && !block.endorsed);
+            }
+        }
+    }
+}

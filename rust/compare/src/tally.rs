@@ -1,0 +1,94 @@
+//! How often each answer came up.
+
+use std::fmt::{self, Display, Formatter};
+
+/// The numbers an answer can have.
+pub const NUMBERS: usize = 18;
+
+/// How often each number was the answer to one sort of call, and which ones
+/// must come up there and which cannot.
+#[derive(Debug, Clone)]
+pub struct Tally {
+    name: String,
+    counts: [u64; NUMBERS],
+    due: Vec<u32>,
+    impossible: Vec<u32>,
+}
+
+impl Tally {
+    pub fn new(name: &str, due: &[u32], impossible: &[u32]) -> Tally {
+        Tally {
+            name: name.to_string(),
+            counts: [0; NUMBERS],
+            due: due.to_vec(),
+            impossible: impossible.to_vec(),
+        }
+    }
+
+    pub fn count(&mut self, number: u32) {
+        if let Some(count) = self.counts.get_mut(number as usize) {
+            *count += 1;
+        }
+    }
+
+    pub fn total(&self) -> u64 {
+        self.counts.iter().sum()
+    }
+
+    fn of(&self, number: u32) -> u64 {
+        self.counts[number as usize]
+    }
+
+    /// What is wrong with these counts, in words.
+    pub fn complaints(&self) -> Vec<String> {
+        let name = &self.name;
+        let missing = self.due.iter().filter(|number| self.of(**number) == 0);
+        let wrong = self
+            .impossible
+            .iter()
+            .filter(|number| self.of(**number) > 0);
+        let missing = missing.map(|number| format!("{name}: {number} never came up"));
+        let wrong = wrong.map(|number| format!("{name}: {number} came up, which cannot be"));
+        missing.chain(wrong).collect()
+    }
+
+    /// A line of the numbers, to stand above the tallies.
+    pub fn heading() -> String {
+        let numbers: String = (0..NUMBERS).map(|number| format!("{number:>7}")).collect();
+        format!("{:<16}{numbers}", "answer")
+    }
+}
+
+/// The counts in a line; `-` for what cannot be.
+impl Display for Tally {
+    fn fmt(&self, out: &mut Formatter) -> fmt::Result {
+        write!(out, "{:<16}", self.name)?;
+        for (number, count) in self.counts.iter().enumerate() {
+            if *count == 0 && self.impossible.contains(&(number as u32)) {
+                write!(out, "{:>7}", "-")?;
+            } else {
+                write!(out, "{count:>7}")?;
+            }
+        }
+        Ok(())
+    }
+}
+
+#[cfg(test)]
+mod tests {
+    use super::*;
+
+    #[test]
+    fn complains_of_what_is_missing_and_of_what_cannot_be() {
+        let mut tally = Tally::new("run", &[0, 13], &[15]);
+        assert_eq!(tally.complaints().len(), 2);
+        tally.count(0);
+        tally.count(13);
+        assert!(tally.complaints().is_empty());
+        tally.count(15);
+        assert_eq!(
+            tally.complaints(),
+            ["run: 15 came up, which cannot be".to_string()]
+        );
+    }
+}
