@@ -10,4 +10,5 @@ pub mod Finished
 pub mod Faithful
 pub mod Isolation
 pub mod Endorsed
+pub mod Unrelated
 pub mod Vectors
