@@ -4,10 +4,9 @@
 //! or per run, and their ratio; at the end, how they stand to the demands. No
 //! time changes its exit status.
 
-#![deny(unsafe_code)]
+#![forbid(unsafe_code)]
 
 mod code;
-mod proved;
 mod sheets;
 mod timing;
 mod workloads;

@@ -1,6 +1,10 @@
 //! What is timed. Every run passes its rule, and finishes or is spent.
 
-use crate::code::*;
+use muntyzhap::code::*;
+use muntyzhap::sheet::{MOST_BLOCKS, MOST_CODE, MOST_SLOTS};
+use muntyzhap::{Value, MOST_BUDGET};
+
+use crate::code::{filled, filled_widely, forever};
 use crate::sheets::{full_store, programme, store_of_one};
 
 /// What a time is divided by.
@@ -21,24 +25,17 @@ pub struct Workload {
 }
 
 impl Workload {
-    const MOST_BUDGET: u32 = 1_000_000;
-
     fn new(name: &'static str, values: &[Value], blocks: &[Code]) -> Workload {
         Workload {
             name,
             unit: Unit::Step,
             store: store_of_one(values),
             programme: programme(blocks),
-            budget: Workload::MOST_BUDGET,
-            output: values.len() * Value::WIDTH,
+            budget: MOST_BUDGET,
+            output: values.len() * Value::BYTES,
         }
     }
 }
-
-/// "At most 8 bytes 11 stand in a row."
-const MOST_READS: usize = 8;
-const MOST_BLOCKS: usize = 64;
-const MOST_CODE: usize = 16_384;
 
 /// (a) to (d): those of which a ratio is asked.
 pub fn of_speed() -> Vec<Workload> {
@@ -62,7 +59,7 @@ fn assignments() -> Workload {
 }
 
 fn nested_ifs() -> Workload {
-    const DEEP: u32 = 8;
+    const DEEP: u8 = 8;
     let innermost = assign(DEEP, literal(Value::Integer(1)));
     // Then-part and else-part are taken in turn.
     let body = (0..DEEP).rev().fold(innermost, |inner, slot| {
@@ -79,8 +76,8 @@ fn nested_ifs() -> Workload {
 
 /// Slots from `first` on: views to be read in a row, and what the last read
 /// gives.
-fn chain(first: u32, last: Value) -> Vec<Value> {
-    let mut values: Vec<Value> = (1..MOST_READS as u32)
+fn chain(first: u8, last: Value) -> Vec<Value> {
+    let mut values: Vec<Value> = (1..MOST_READS as u8)
         .map(|next| Value::ReadView(first + next))
         .collect();
     values.push(last);
@@ -89,7 +86,7 @@ fn chain(first: u32, last: Value) -> Vec<Value> {
 
 fn chains_of_reads() -> Workload {
     let mut values = chain(0, Value::Truth(true));
-    let slot = values.len() as u32;
+    let slot = values.len() as u8;
     values.push(Value::Integer(0));
     let all = reads(MOST_READS, 0);
     let code = while_command(all.clone(), assign(slot, all));
@@ -152,14 +149,14 @@ fn full_sheets() -> Workload {
         store: full_store(),
         programme: programme(&vec![block; MOST_BLOCKS]),
         budget: 0,
-        output: 256 * Value::WIDTH,
+        output: MOST_SLOTS * Value::BYTES,
     }
 }
 
 /// The step that evaluates most: 8 reads for the target and 8 for the value.
 fn chains_on_both_sides() -> Workload {
-    let mut values = chain(0, Value::WriteView(2 * MOST_READS as u32));
-    let second = values.len() as u32;
+    let mut values = chain(0, Value::WriteView(2 * MOST_READS as u8));
+    let second = values.len() as u8;
     values.extend(chain(second, Value::Integer(5)));
     values.push(Value::Integer(0));
     let each = assignment(reads(MOST_READS, 0), reads(MOST_READS, second));

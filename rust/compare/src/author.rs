@@ -370,28 +370,20 @@ mod tests {
         }
     }
 
+    /// All care but for one part of it.
+    fn care_but(part: fn(&mut Care) -> &mut usize, percent: usize) -> Care {
+        let mut care = Care::FULL;
+        *part(&mut care) = percent;
+        care
+    }
+
     #[test]
     fn what_is_not_minded_is_refused() {
-        let kinds = Care {
-            kinds: 70,
-            ..Care::FULL
-        };
-        let authority = Care {
-            authority: 0,
-            ..Care::FULL
-        };
-        let views = Care {
-            views: 0,
-            ..Care::FULL
-        };
-        let labels = Care {
-            labels: 0,
-            ..Care::FULL
-        };
-        let branches = Care {
-            branches: 0,
-            ..Care::FULL
-        };
+        let kinds = care_but(|care| &mut care.kinds, 70);
+        let authority = care_but(|care| &mut care.authority, 0);
+        let views = care_but(|care| &mut care.views, 0);
+        let labels = care_but(|care| &mut care.labels, 0);
+        let branches = care_but(|care| &mut care.branches, 0);
         assert!(RULES.iter().all(|rule| answers(kinds, *rule)[13] > 200));
         assert!([0, 2, 3]
             .iter()

@@ -7,10 +7,11 @@
 //! The same seed and count give the same play. It ends with status 0 when the
 //! two runners never differ and every answer that can come up did.
 //!
-//! The proved runner is the static library that `build.rs` names. With the
-//! feature `self` the second runner stands in for it, to try the generators.
+//! The proved runner is the static library, through the crate `muntyzhap`.
+//! Without the feature `proved` the second runner stands in for it, to try the
+//! generators.
 
-#![deny(unsafe_code)]
+#![forbid(unsafe_code)]
 
 mod answers;
 mod author;
@@ -24,10 +25,10 @@ mod limits;
 mod play_pairs;
 mod play_runs;
 mod play_sheets;
-#[cfg(not(feature = "self"))]
+#[cfg(feature = "proved")]
 mod proved;
-#[cfg(feature = "self")]
-#[path = "proved_self.rs"]
+#[cfg(not(feature = "proved"))]
+#[path = "stand_in.rs"]
 mod proved;
 mod random;
 mod rehearsal;

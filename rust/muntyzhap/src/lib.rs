@@ -1,0 +1,84 @@
+//! The proved runner for Rust programs.
+//!
+//! It links the static library that `rt staticlib capi` writes and wraps its
+//! four calls: [`check_store`], [`check_table`], [`check_programme`] and
+//! [`run`]. A refusal is a [`Refusal`], which says in words what was refused
+//! and, where the document gives one, its place.
+//!
+//! Every length is right by the time the library sees it: a slice is passed
+//! with its own length, and whether that is what a sheet's sizes or the
+//! output's slots ask for, the library judges itself (1, 6, 12).
+//!
+//! [`code`] and [`sheet`] write sheets and read what a run leaves. They are a
+//! convenience and not proved; whatever bytes they make, the library judges.
+//! [`raw`] has the same four calls with the numbers as the library gives them.
+
+#![deny(unsafe_code)]
+#![warn(missing_docs)]
+
+pub mod code;
+mod library;
+mod refusal;
+mod rule;
+pub mod sheet;
+mod value;
+
+pub use crate::refusal::{Place, Refusal, Stop};
+pub use crate::rule::{Rule, MOST_BUDGET};
+pub use crate::value::{Integer, Value};
+
+/// The library's calls with numbers for answers, as document 01 numbers them.
+pub mod raw {
+    pub use crate::library::{check_programme, check_store, check_table, run, Answer};
+}
+
+/// A run that finished.
+#[derive(Debug, Clone, Copy, PartialEq, Eq)]
+pub struct Finished {
+    /// The blocks of the programme; all of them ran.
+    pub blocks: usize,
+    /// The guards judged and the assignments made.
+    pub steps: u32,
+}
+
+/// Judges a store sheet: refused by 1 to 5.
+pub fn check_store(sheet: &[u8]) -> Result<(), Refusal> {
+    judged(raw::Answer::only(raw::check_store(sheet)))
+}
+
+/// Judges a table sheet, a store sheet that ends after its owners: refused by
+/// 1 to 4.
+pub fn check_table(sheet: &[u8]) -> Result<(), Refusal> {
+    judged(raw::Answer::only(raw::check_table(sheet)))
+}
+
+/// Judges a programme sheet for a store of so many principals and slots:
+/// refused by 6 to 10.
+pub fn check_programme(sheet: &[u8], principals: usize, slots: usize) -> Result<(), Refusal> {
+    judged(raw::check_programme(sheet, principals, slots))
+}
+
+/// Judges both sheets and the arguments, runs the blocks in order and, if they
+/// finish, writes the end store to `out`, which has [`sheet::output_bytes`] of
+/// the store sheet. A refusal leaves every byte of `out` as it was.
+pub fn run(
+    store: &[u8],
+    programme: &[u8],
+    rule: Rule,
+    budget: u32,
+    out: &mut [u8],
+) -> Result<Finished, Refusal> {
+    let answer = raw::run(store, programme, rule.number(), budget, out);
+    judged(answer)?;
+    Ok(Finished {
+        blocks: answer.block,
+        steps: answer.steps,
+    })
+}
+
+fn judged(answer: raw::Answer) -> Result<(), Refusal> {
+    match Refusal::from_answer(answer) {
+        Some(refusal) => Err(refusal),
+        None => Ok(()),
+    }
+}

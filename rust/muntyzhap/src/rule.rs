@@ -1,0 +1,42 @@
+//! Rule sets and the budget.
+
+/// The largest budget, in steps. A larger one is refused by 11.
+pub const MOST_BUDGET: u32 = 1_000_000;
+
+/// A rule set, by its number.
+#[derive(Debug, Clone, Copy, PartialEq, Eq)]
+pub enum Rule {
+    /// The block's region must be at or above the owner of the slot it writes.
+    AccessControl = 0,
+    /// A block may have no write view of a slot whose owner isn't at or below
+    /// its region.
+    Capability = 1,
+    /// Access control and, unless the block is endorsed, the labels of target
+    /// and value stand at or above the slot's owner.
+    ExplicitProvenance = 2,
+    /// Explicit provenance, and the label of the branch likewise.
+    FullProvenance = 3,
+    /// The house rule: access control.
+    House = 255,
+}
+
+impl Rule {
+    /// Every rule set, in the order of their numbers.
+    pub const ALL: [Rule; 5] = [
+        Rule::AccessControl,
+        Rule::Capability,
+        Rule::ExplicitProvenance,
+        Rule::FullProvenance,
+        Rule::House,
+    ];
+
+    /// The number of this rule set.
+    pub fn number(self) -> u8 {
+        self as u8
+    }
+
+    /// The rule set of this number, if there is one.
+    pub fn from_number(number: u8) -> Option<Rule> {
+        Rule::ALL.into_iter().find(|rule| rule.number() == number)
+    }
+}
