@@ -1,0 +1,173 @@
+/*
+ * The proved runner's static library, libcapi.a, for C and C++.
+ *
+ * A sheet or an output is passed as a pointer and its length in bytes. No
+ * pointer may be NULL, also where a length is 0. Buffers and numbers that a
+ * call writes must not overlap each other or a sheet. The calls keep no
+ * pointer, take no memory from the heap and hold no state, so threads may call
+ * them at the same time over buffers of their own.
+ *
+ * Every input has an answer: any bytes may be passed as a sheet.
+ */
+#ifndef MUNTYZHAP_H
+#define MUNTYZHAP_H
+
+#include <stddef.h>
+#include <stdint.h>
+
+#ifdef __cplusplus
+extern "C" {
+#endif
+
+/* Answers */
+
+#define MUNTYZHAP_FINISHED 0
+
+/* Refused for the store sheet: no place. */
+
+/* Its length isn't what its sizes say, or it can't hold them. */
+#define MUNTYZHAP_STORE_LENGTH 1
+/* Its number of principals or of slots is outside its limit. */
+#define MUNTYZHAP_STORE_LIMITS 2
+/* Its order table is not good. */
+#define MUNTYZHAP_ORDER_TABLE 3
+/* A slot's owner is not one of the principals. */
+#define MUNTYZHAP_OWNER 4
+/* A slot's value is ill-formed. */
+#define MUNTYZHAP_VALUE 5
+
+/* Refused for the programme sheet: 9 and 10 at the block and offset of a byte,
+ * the others with no place. */
+
+/* Its length isn't what its sizes say, it can't hold them, or its block
+ * lengths don't add up to its code. */
+#define MUNTYZHAP_PROGRAMME_LENGTH 6
+/* Its number of blocks or of code bytes is outside its limit. */
+#define MUNTYZHAP_PROGRAMME_LIMITS 7
+/* A block's region is not one of the principals. */
+#define MUNTYZHAP_REGION 8
+/* Unknown byte, bad count or literal, code that ends early, bytes left over. */
+#define MUNTYZHAP_ILL_FORMED_CODE 9
+/* Commands nested too deep, or too many reads in a row. */
+#define MUNTYZHAP_NESTED_TOO_DEEP 10
+
+/* Refused for the other arguments: no place. */
+
+/* The rule or the budget is not one that there is. */
+#define MUNTYZHAP_ARGUMENTS 11
+/* The output has not MUNTYZHAP_VALUE_BYTES for each slot. */
+#define MUNTYZHAP_OUTPUT_LENGTH 12
+
+/* Refused while a block runs, at the block and offset of the first byte of the
+ * command whose step is forbidden. */
+
+/* Wrong kind for a guard, a read or a target. */
+#define MUNTYZHAP_WRONG_KIND 13
+/* The region does not stand at or above the slot's owner. */
+#define MUNTYZHAP_NO_AUTHORITY 14
+/* A write view whose slot's owner does not stand at or below the region. */
+#define MUNTYZHAP_WRITE_VIEW_NOT_ALLOWED 15
+/* A label does not stand at or above the slot's owner. */
+#define MUNTYZHAP_PROVENANCE_TOO_LOW 16
+/* The budget is spent. */
+#define MUNTYZHAP_BUDGET_SPENT 17
+
+/* Rules */
+
+#define MUNTYZHAP_ACCESS_CONTROL 0
+#define MUNTYZHAP_CAPABILITY 1
+#define MUNTYZHAP_EXPLICIT_PROVENANCE 2
+#define MUNTYZHAP_FULL_PROVENANCE 3
+/* The house rule: access control. */
+#define MUNTYZHAP_HOUSE 255
+
+/* Limits */
+
+#define MUNTYZHAP_MOST_PRINCIPALS 32
+#define MUNTYZHAP_MOST_SLOTS 256
+#define MUNTYZHAP_MOST_BLOCKS 64
+#define MUNTYZHAP_MOST_CODE 16384
+/* How deep commands nest, a block's own command being depth 1. */
+#define MUNTYZHAP_MOST_DEPTH 32
+/* Reads in a row in one expression. */
+#define MUNTYZHAP_MOST_READS 8
+#define MUNTYZHAP_MOST_BUDGET 1000000
+
+/* Bytes of the sheets and of the output */
+
+/* A value: its kind byte and its payload, the lowest byte first. */
+#define MUNTYZHAP_VALUE_BYTES 5
+#define MUNTYZHAP_PAYLOAD_BYTES 4
+#define MUNTYZHAP_KIND_INTEGER 0
+#define MUNTYZHAP_KIND_TRUTH 1
+#define MUNTYZHAP_KIND_READ_VIEW 2
+#define MUNTYZHAP_KIND_WRITE_VIEW 3
+/* What a region byte has besides its principal when the block is endorsed. */
+#define MUNTYZHAP_ENDORSED 0x80
+/* First bytes of expressions and commands. */
+#define MUNTYZHAP_LITERAL 0x10
+#define MUNTYZHAP_READ 0x11
+#define MUNTYZHAP_SKIP 0x20
+#define MUNTYZHAP_ASSIGNMENT 0x21
+#define MUNTYZHAP_SEQUENCE 0x22
+#define MUNTYZHAP_IF 0x23
+#define MUNTYZHAP_WHILE 0x24
+
+/* Calls */
+
+/*
+ * Judges a store sheet. Answers 0 if it is good, else its refusal, 1 to 5.
+ *
+ * sheet, sheet_length: the sheet.
+ */
+uint32_t muntyzhap_check_store(const uint8_t *sheet, size_t sheet_length);
+
+/*
+ * Judges a table sheet, which is a store sheet that ends after its owners.
+ * Answers 0 if it is good, else its refusal, 1 to 4.
+ *
+ * sheet, sheet_length: the sheet.
+ */
+uint32_t muntyzhap_check_table(const uint8_t *sheet, size_t sheet_length);
+
+/*
+ * Judges a programme sheet for a store. Answers 0 if it is good, else its
+ * refusal, 6 to 10.
+ *
+ * sheet, sheet_length: the sheet.
+ * n: the number of principals of the store.
+ * slots: the number of slots of the store.
+ * block, offset: always written: the place of 9 or 10, else 0.
+ */
+uint32_t muntyzhap_check_programme(const uint8_t *sheet, size_t sheet_length,
+                                   size_t n, size_t slots, size_t *block,
+                                   size_t *offset);
+
+/*
+ * Judges both sheets and the arguments and runs the blocks in order. Answers 0
+ * if they finish, and out is then the end store: the value of each slot, in
+ * order. Else it answers the refusal, 1 to 17, and every byte of out stays as
+ * it was.
+ *
+ * store, store_length: the store sheet.
+ * programme, programme_length: the programme sheet.
+ * rule: the number of a rule.
+ * budget: the most steps, 0 to MUNTYZHAP_MOST_BUDGET. A step is one guard
+ *   judged or one assignment made.
+ * out, out_length: the output, MUNTYZHAP_VALUE_BYTES for each slot.
+ * block, offset: always written: the place of 9, 10 or 13 to 17; else offset
+ *   0, and block 0 for a refusal and the number of blocks for a run that
+ *   finished.
+ * steps: always written: the steps done; a forbidden step is not counted.
+ */
+uint32_t muntyzhap_run(const uint8_t *store, size_t store_length,
+                       const uint8_t *programme, size_t programme_length,
+                       uint8_t rule, uint32_t budget, uint8_t *out,
+                       size_t out_length, size_t *block, size_t *offset,
+                       uint32_t *steps);
+
+#ifdef __cplusplus
+}
+#endif
+
+#endif

@@ -1,0 +1,109 @@
+//! The header's constants are those of the crate, which the tests of the calls
+//! hold to the library.
+
+use std::collections::BTreeMap;
+
+use muntyzhap::code::{Command, LITERAL, MOST_DEPTH, MOST_READS, READ};
+use muntyzhap::sheet::{Block, MOST_BLOCKS, MOST_CODE, MOST_PRINCIPALS, MOST_SLOTS};
+use muntyzhap::{Place, Refusal, Rule, Stop, Value, MOST_BUDGET};
+
+const HEADER: &str = include_str!("../../../include/muntyzhap.h");
+
+/// The constants that the header defines, by name.
+fn defined() -> BTreeMap<String, u64> {
+    let names = HEADER.lines().filter_map(|line| {
+        let mut words = line.strip_prefix("#define MUNTYZHAP_")?.split_whitespace();
+        let (name, number) = (words.next()?, words.next()?);
+        assert_eq!(words.next(), None, "{line}");
+        Some((name.to_string(), value(number)))
+    });
+    names.collect()
+}
+
+fn value(number: &str) -> u64 {
+    let value = match number.strip_prefix("0x") {
+        Some(digits) => u64::from_str_radix(digits, 16),
+        None => number.parse(),
+    };
+    value.expect("a number")
+}
+
+fn refusals() -> Vec<(&'static str, u64)> {
+    let place = Place {
+        block: 0,
+        offset: 0,
+    };
+    let stop = Stop { place, steps: 0 };
+    let named = [
+        ("STORE_LENGTH", Refusal::StoreLength),
+        ("STORE_LIMITS", Refusal::StoreLimits),
+        ("ORDER_TABLE", Refusal::OrderTable),
+        ("OWNER", Refusal::Owner),
+        ("VALUE", Refusal::Value),
+        ("PROGRAMME_LENGTH", Refusal::ProgrammeLength),
+        ("PROGRAMME_LIMITS", Refusal::ProgrammeLimits),
+        ("REGION", Refusal::Region),
+        ("ILL_FORMED_CODE", Refusal::IllFormedCode(place)),
+        ("NESTED_TOO_DEEP", Refusal::NestedTooDeep(place)),
+        ("ARGUMENTS", Refusal::Arguments),
+        ("OUTPUT_LENGTH", Refusal::OutputLength),
+        ("WRONG_KIND", Refusal::WrongKind(stop)),
+        ("NO_AUTHORITY", Refusal::NoAuthority(stop)),
+        ("WRITE_VIEW_NOT_ALLOWED", Refusal::WriteViewNotAllowed(stop)),
+        ("PROVENANCE_TOO_LOW", Refusal::ProvenanceTooLow(stop)),
+        ("BUDGET_SPENT", Refusal::BudgetSpent(stop)),
+    ];
+    let numbered = named.map(|(name, refusal)| (name, refusal.number().into()));
+    [&[("FINISHED", 0)], numbered.as_slice()].concat()
+}
+
+fn rules_and_limits() -> Vec<(&'static str, u64)> {
+    let rules = [
+        ("ACCESS_CONTROL", Rule::AccessControl),
+        ("CAPABILITY", Rule::Capability),
+        ("EXPLICIT_PROVENANCE", Rule::ExplicitProvenance),
+        ("FULL_PROVENANCE", Rule::FullProvenance),
+        ("HOUSE", Rule::House),
+    ];
+    let limits = [
+        ("MOST_PRINCIPALS", MOST_PRINCIPALS),
+        ("MOST_SLOTS", MOST_SLOTS),
+        ("MOST_BLOCKS", MOST_BLOCKS),
+        ("MOST_CODE", MOST_CODE),
+        ("MOST_DEPTH", MOST_DEPTH),
+        ("MOST_READS", MOST_READS),
+        ("MOST_BUDGET", MOST_BUDGET as usize),
+        ("VALUE_BYTES", Value::BYTES),
+        ("PAYLOAD_BYTES", Value::PAYLOAD_BYTES),
+    ];
+    let rules = rules.map(|(name, rule)| (name, rule.number().into()));
+    let limits = limits.map(|(name, limit)| (name, limit as u64));
+    [rules.as_slice(), &limits].concat()
+}
+
+fn bytes() -> Vec<(&'static str, u64)> {
+    let bytes = [
+        ("KIND_INTEGER", Value::INTEGER),
+        ("KIND_TRUTH", Value::TRUTH),
+        ("KIND_READ_VIEW", Value::READ_VIEW),
+        ("KIND_WRITE_VIEW", Value::WRITE_VIEW),
+        ("ENDORSED", Block::ENDORSED),
+        ("LITERAL", LITERAL),
+        ("READ", READ),
+        ("SKIP", Command::Skip.byte()),
+        ("ASSIGNMENT", Command::Assignment.byte()),
+        ("SEQUENCE", Command::Sequence.byte()),
+        ("IF", Command::If.byte()),
+        ("WHILE", Command::While.byte()),
+    ];
+    bytes.map(|(name, byte)| (name, byte.into())).to_vec()
+}
+
+#[test]
+fn the_header_has_the_crate_s_constants_and_no_others() {
+    let all = [refusals(), rules_and_limits(), bytes()].concat();
+    let all = all
+        .into_iter()
+        .map(|(name, number)| (name.to_string(), number));
+    assert_eq!(defined(), all.collect());
+}
