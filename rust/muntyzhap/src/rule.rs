@@ -1,5 +1,7 @@
 //! Rule sets and the budget.
 
+use std::fmt::{self, Display, Formatter};
+
 /// The largest budget, in steps. A larger one is refused by 11.
 pub const MOST_BUDGET: u32 = 1_000_000;
 
@@ -38,5 +40,18 @@ impl Rule {
     /// The rule set of this number, if there is one.
     pub fn from_number(number: u8) -> Option<Rule> {
         Rule::ALL.into_iter().find(|rule| rule.number() == number)
+    }
+}
+
+/// The rule set's name.
+impl Display for Rule {
+    fn fmt(&self, out: &mut Formatter) -> fmt::Result {
+        out.write_str(match self {
+            Rule::AccessControl => "access control",
+            Rule::Capability => "capability",
+            Rule::ExplicitProvenance => "explicit provenance",
+            Rule::FullProvenance => "full provenance",
+            Rule::House => "the house rule",
+        })
     }
 }

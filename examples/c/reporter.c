@@ -1,0 +1,60 @@
+/* The laboratory's reporter: runs a customer's block and then the
+ * laboratory's, and reads the end store. */
+#include "sheets.h"
+
+#include <inttypes.h>
+#include <stdio.h>
+#include <stdlib.h>
+
+/* The customer's slot, and the laboratory's. */
+enum { SAMPLE = 0, REPORT = 1, SLOTS = 2 };
+enum { BLOCKS = 2, BUDGET = 10 };
+
+static const struct slot slots[SLOTS] = {
+    [SAMPLE] = {CUSTOMER, MUNTYZHAP_KIND_INTEGER, 5},
+    [REPORT] = {LABORATORY, MUNTYZHAP_KIND_INTEGER, 7},
+};
+
+/* sample := 42 */
+static struct block customer_block(void)
+{
+    struct block block = {CUSTOMER, {{0}, 0}};
+
+    put_byte(&block.code, MUNTYZHAP_ASSIGNMENT);
+    put_literal(&block.code, MUNTYZHAP_KIND_WRITE_VIEW, SAMPLE);
+    put_literal(&block.code, MUNTYZHAP_KIND_INTEGER, 42);
+    return block;
+}
+
+/* report := what sample holds */
+static struct block laboratory_block(void)
+{
+    struct block block = {LABORATORY, {{0}, 0}};
+
+    put_byte(&block.code, MUNTYZHAP_ASSIGNMENT);
+    put_literal(&block.code, MUNTYZHAP_KIND_WRITE_VIEW, REPORT);
+    put_read(&block.code, SAMPLE);
+    return block;
+}
+
+int main(void)
+{
+    const struct block blocks[BLOCKS] = {customer_block(), laboratory_block()};
+    const struct bytes store = store_sheet(slots, SLOTS);
+    const struct bytes programme = programme_sheet(blocks, BLOCKS);
+    uint8_t out[SLOTS * MUNTYZHAP_VALUE_BYTES] = {0};
+    size_t block, offset;
+    uint32_t steps;
+    uint32_t answer = muntyzhap_run(
+        store.at, store.length, programme.at, programme.length,
+        MUNTYZHAP_ACCESS_CONTROL, BUDGET, out, sizeof out, &block, &offset,
+        &steps);
+
+    if (answer != MUNTYZHAP_FINISHED) {
+        fprintf(stderr, "refused by %" PRIu32 "\n", answer);
+        return EXIT_FAILURE;
+    }
+    printf("finished: %zu blocks, %" PRIu32 " steps\n", block, steps);
+    print_slots(slots, SLOTS, out);
+    return EXIT_SUCCESS;
+}

@@ -1,0 +1,147 @@
+#include "sheets.h"
+
+#include <stdio.h>
+#include <stdlib.h>
+
+const uint32_t ORDER[PRINCIPALS] = {
+    1u << CUSTOMER,
+    1u << CUSTOMER | 1u << LABORATORY,
+};
+
+void put_byte(struct bytes *to, uint8_t byte)
+{
+    if (to->length == ROOM) {
+        fputs("no room for the sheet\n", stderr);
+        exit(EXIT_FAILURE);
+    }
+    to->at[to->length++] = byte;
+}
+
+/* A number of so many bytes, the lowest first. */
+static void put_number(struct bytes *to, uint64_t number, size_t count)
+{
+    for (; count > 0; count--) {
+        put_byte(to, (uint8_t)(number & 0xFF));
+        number >>= 8;
+    }
+}
+
+static void put_bytes(struct bytes *to, const struct bytes *from)
+{
+    for (size_t i = 0; i < from->length; i++)
+        put_byte(to, from->at[i]);
+}
+
+/* A negative payload becomes two's complement. */
+static void put_value(struct bytes *to, uint8_t kind, int32_t payload)
+{
+    put_byte(to, kind);
+    put_number(to, (uint64_t)payload, MUNTYZHAP_PAYLOAD_BYTES);
+}
+
+void put_literal(struct bytes *to, uint8_t kind, int32_t payload)
+{
+    put_byte(to, MUNTYZHAP_LITERAL);
+    put_value(to, kind, payload);
+}
+
+void put_read(struct bytes *to, uint8_t slot)
+{
+    put_byte(to, MUNTYZHAP_READ);
+    put_literal(to, MUNTYZHAP_KIND_READ_VIEW, slot);
+}
+
+struct bytes store_sheet(const struct slot *slots, size_t count)
+{
+    struct bytes sheet = {{0}, 0};
+
+    put_number(&sheet, PRINCIPALS, 1);
+    put_number(&sheet, count, 2);
+    for (size_t i = 0; i < PRINCIPALS; i++)
+        put_number(&sheet, ORDER[i], 4);
+    for (size_t i = 0; i < count; i++)
+        put_byte(&sheet, slots[i].owner);
+    for (size_t i = 0; i < count; i++)
+        put_value(&sheet, slots[i].kind, slots[i].payload);
+    return sheet;
+}
+
+struct bytes programme_sheet(const struct block *blocks, size_t count)
+{
+    struct bytes sheet = {{0}, 0};
+    size_t code = 0;
+
+    for (size_t i = 0; i < count; i++)
+        code += blocks[i].code.length;
+    put_number(&sheet, count, 1);
+    put_number(&sheet, code, 2);
+    for (size_t i = 0; i < count; i++)
+        put_byte(&sheet, blocks[i].region);
+    for (size_t i = 0; i < count; i++)
+        put_number(&sheet, blocks[i].code.length, 2);
+    for (size_t i = 0; i < count; i++)
+        put_bytes(&sheet, &blocks[i].code);
+    return sheet;
+}
+
+/* The number in a payload, signed. */
+static long long payload_number(const uint8_t *payload)
+{
+    size_t i = MUNTYZHAP_PAYLOAD_BYTES;
+    long long number = payload[i - 1] & 0x80 ? -1 : 0;
+
+    while (i > 0)
+        number = number * 256 + payload[--i];
+    return number;
+}
+
+static void print_value(const uint8_t *value)
+{
+    long long number = payload_number(value + 1);
+
+    switch (value[0]) {
+    case MUNTYZHAP_KIND_INTEGER:
+        printf("integer %lld\n", number);
+        break;
+    case MUNTYZHAP_KIND_TRUTH:
+        printf("truth value %s\n", number == 1 ? "true" : "false");
+        break;
+    case MUNTYZHAP_KIND_READ_VIEW:
+        printf("read view of slot %lld\n", number);
+        break;
+    case MUNTYZHAP_KIND_WRITE_VIEW:
+        printf("write view of slot %lld\n", number);
+        break;
+    default:
+        printf("unknown kind %d\n", value[0]);
+    }
+}
+
+void print_slots(const struct slot *slots, size_t count, const uint8_t *out)
+{
+    for (size_t i = 0; i < count; i++) {
+        printf("slot %zu, owner %d: ", i, slots[i].owner);
+        print_value(out + i * MUNTYZHAP_VALUE_BYTES);
+    }
+}
+
+const char *command_name(const struct block *blocks, size_t block,
+                         size_t offset)
+{
+    if (offset >= blocks[block].code.length)
+        return "none";
+    switch (blocks[block].code.at[offset]) {
+    case MUNTYZHAP_SKIP:
+        return "skip";
+    case MUNTYZHAP_ASSIGNMENT:
+        return "assignment";
+    case MUNTYZHAP_SEQUENCE:
+        return "sequence";
+    case MUNTYZHAP_IF:
+        return "if";
+    case MUNTYZHAP_WHILE:
+        return "while";
+    default:
+        return "none";
+    }
+}

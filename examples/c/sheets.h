@@ -1,0 +1,50 @@
+/* Sheets written from named parts, and what a run leaves, in words. */
+#ifndef SHEETS_H
+#define SHEETS_H
+
+#include "muntyzhap.h"
+
+/* Room enough for the sheets of the examples. */
+enum { ROOM = 256 };
+
+/* Bytes written one after the other. */
+struct bytes {
+    uint8_t at[ROOM];
+    size_t length;
+};
+
+/* A slot: who owns it, and the kind and payload that it opens with. */
+struct slot {
+    uint8_t owner;
+    uint8_t kind;
+    int32_t payload;
+};
+
+/* A block: for whom it runs, and its one command. */
+struct block {
+    uint8_t region;
+    struct bytes code;
+};
+
+enum { CUSTOMER = 0, LABORATORY = 1, PRINCIPALS = 2 };
+
+/* Who stands at or below each: the laboratory is above its customer. */
+extern const uint32_t ORDER[PRINCIPALS];
+
+/* Parts of a command. No room left ends the program. */
+void put_byte(struct bytes *to, uint8_t byte);
+void put_literal(struct bytes *to, uint8_t kind, int32_t payload);
+void put_read(struct bytes *to, uint8_t slot);
+
+/* Whole sheets. */
+struct bytes store_sheet(const struct slot *slots, size_t count);
+struct bytes programme_sheet(const struct block *blocks, size_t count);
+
+/* Prints a line for each slot of the end store that a finished run left. */
+void print_slots(const struct slot *slots, size_t count, const uint8_t *out);
+
+/* The name of the command whose first byte stands at a place, or "none". */
+const char *command_name(const struct block *blocks, size_t block,
+                         size_t offset);
+
+#endif
