@@ -9,6 +9,18 @@
 //! with its own length, and whether that is what a sheet's sizes or the
 //! output's slots ask for, the library judges itself (1, 6, 12).
 //!
+//! ```
+//! use muntyzhap::{run, sheet::output_bytes, Rule};
+//!
+//! # use muntyzhap::{code::skip, sheet::{programme_sheet, store_sheet, Block}};
+//! # let (store, programme) = (store_sheet(&[1], &[]), programme_sheet(&[Block::new(0, skip())]));
+//! let mut out = vec![0; output_bytes(&store)];
+//! match run(&store, &programme, Rule::FullProvenance, 1000, &mut out) {
+//!     Ok(finished) => println!("{} blocks in {} steps", finished.blocks, finished.steps),
+//!     Err(refusal) => println!("{refusal}"),
+//! }
+//! ```
+//!
 //! [`code`] and [`sheet`] write sheets and read what a run leaves. They are a
 //! convenience and not proved; whatever bytes they make, the library judges.
 //! [`raw`] has the same four calls with the numbers as the library gives them.

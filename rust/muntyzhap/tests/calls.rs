@@ -241,6 +241,9 @@ fn what_is_at_a_limit_passes_and_one_more_does_not() {
     let more_slots = vec![slots()[0]; MOST_SLOTS + 1];
     let refused = check_store(&store_sheet(&chain, &more_slots));
     assert_eq!(refused, Err(Refusal::StoreLimits));
+    let longer_chain = [chain, vec![u32::MAX]].concat();
+    let refused = check_store(&store_sheet(&longer_chain, &[]));
+    assert_eq!(refused, Err(Refusal::StoreLimits));
 
     let nested = |depth| (1..depth).fold(skip(), |inner, _| while_command(truth(false), inner));
     let check = |code| check_programme(&programme_of(LOW, code), 2, 2);
