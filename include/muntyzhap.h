@@ -5,7 +5,8 @@
  * pointer may be NULL, also where a length is 0. Buffers and numbers that a
  * call writes must not overlap each other or a sheet. The calls keep no
  * pointer, take no memory from the heap and hold no state, so threads may call
- * them at the same time over buffers of their own.
+ * them at the same time over buffers of their own. A call takes about 80 KiB of
+ * stack.
  *
  * Every input has an answer: any bytes may be passed as a sheet.
  */

@@ -89,9 +89,9 @@ static void play(const struct block *blocks, uint8_t rule, const char *name)
         print_slots(slots, SLOTS, out);
         return;
     }
-    printf("refused by %" PRIu32 " in block %zu at offset %zu after %" PRIu32
-           " steps: %s\n",
-           answer, block, offset, steps, meaning(answer));
+    printf("refused by %" PRIu32 " in block %zu at offset %zu, ", answer, block,
+           offset);
+    printf("steps done %" PRIu32 ": %s\n", steps, meaning(answer));
     printf("the command there: %s\n", command_name(blocks, block, offset));
     printf("output %s\n",
            untouched(out, sizeof out) ? "untouched" : "touched");

@@ -226,7 +226,7 @@ impl Display for Refusal {
             write!(out, " in {place}")?;
         }
         if let Some(stop) = self.stop() {
-            write!(out, " after {} steps", stop.steps)?;
+            write!(out, ", steps done {}", stop.steps)?;
         }
         write!(out, ": {}", self.meaning())
     }
@@ -286,7 +286,7 @@ mod tests {
             let expected = format!(
                 "refused by {number}{}",
                 match (placed, running) {
-                    (true, true) => " in block 3 at offset 44 after 555 steps: ",
+                    (true, true) => " in block 3 at offset 44, steps done 555: ",
                     (true, false) => " in block 3 at offset 44: ",
                     _ => ": ",
                 }
