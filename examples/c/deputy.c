@@ -57,9 +57,9 @@ static const char *meaning(uint32_t answer)
 {
     if (answer != MUNTYZHAP_PROVENANCE_TOO_LOW)
         return "see muntyzhap.h";
-    return "provenance too low: the label of the target, of the value or of "
-           "the branch does not stand at or above the owner of the slot to be "
-           "written";
+    return "provenance too low: the label of the target, of the value or, "
+           "under rule 3, of the branch does not stand at or above the owner "
+           "of the slot to be written";
 }
 
 static int untouched(const uint8_t *out, size_t length)

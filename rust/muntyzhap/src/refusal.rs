@@ -209,8 +209,8 @@ impl Refusal {
                  at or below the region"
             }
             Refusal::ProvenanceTooLow(_) => {
-                "provenance too low: the label of the target, of the value or of the branch does \
-                 not stand at or above the owner of the slot to be written"
+                "provenance too low: the label of the target, of the value or, under rule 3, of \
+                 the branch does not stand at or above the owner of the slot to be written"
             }
             Refusal::BudgetSpent(_) => "the budget is spent, and another step was to be done",
             _ => "a number that this wrapper does not know",
@@ -243,6 +243,9 @@ impl Error for Refusal {}
 #[cfg(test)]
 mod tests {
     use super::*;
+    use crate::code::{MOST_DEPTH, MOST_READS};
+    use crate::sheet::{MOST_BLOCKS, MOST_CODE, MOST_PRINCIPALS, MOST_SLOTS};
+    use crate::{Value, MOST_BUDGET};
 
     fn answer(number: u32) -> Answer {
         Answer {
@@ -292,6 +295,25 @@ mod tests {
                 }
             );
             assert!(words.starts_with(&expected), "{words}");
+        }
+    }
+
+    #[test]
+    fn limits_in_words_are_the_limits() {
+        let limits = [
+            (2, MOST_PRINCIPALS),
+            (2, MOST_SLOTS),
+            (7, MOST_BLOCKS),
+            (7, MOST_CODE),
+            (10, MOST_DEPTH),
+            (10, MOST_READS),
+            (11, MOST_BUDGET as usize),
+            (12, Value::BYTES),
+        ];
+        for (number, limit) in limits {
+            let meaning = refusal(number).meaning().replace(',', "");
+            let limit = limit.to_string();
+            assert!(meaning.split(' ').any(|word| word == limit), "{meaning}");
         }
     }
 
