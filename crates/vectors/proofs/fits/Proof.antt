@@ -1,0 +1,31 @@
+use mathlib.Core.Bool.{false≢true}
+use native.Mathlib.Omega.{arith}
+use borrow.Author.Tests.{leb-true, le-leb}
+use borrow.Author.Needs.{needs}
+use Rattle.vectors.proofs.fits.Statement.{statement}
+use Rattle.vectors.proofs.fits.Tie as tie
+
+returns : tie.Need-returns
+returns c = (λ p. absurd (false≢true p), λ q. absurd (omega (arith, q)))
+
+returns-2 : tie.Need-returns-2
+returns-2 c = (λ p. absurd (false≢true p), λ q. absurd (omega (arith, q)))
+
+returns-3 : tie.Need-returns-3
+returns-3 c = (λ p. absurd (false≢true p), λ q. absurd (omega (arith, q)))
+
+returns-4 : tie.Need-returns-4
+returns-4 c = (λ p. absurd (false≢true p), λ q. absurd (omega (arith, q)))
+
+add-result : tie.Need-add-result
+add-result c = search needs
+
+add-result-2 : tie.Need-add-result-2
+add-result-2 c = search needs
+
+returns-5 : tie.Need-returns-5
+returns-5 c = (λ p. (omega arith, leb-true _ _ p), λ q. le-leb _ _ (q .1))
+
+pub fits-spec : {M : Type 1} → statement M
+fits-spec =
+    tie.close (tie.spec returns returns-2 returns-3 returns-4 add-result add-result-2 returns-5)

@@ -1,0 +1,38 @@
+-- A case of the list that the program plays. It starts with 16 bytes: the mark `case` (4 bytes), the length of its name (1), the rule (1),
+-- the budget (4), and the lengths of output, store sheet and programme sheet (2 each), lowest byte first. Then stand the name and the two
+-- sheets. Assumes nothing.
+use Prim.Native.Nat.{ℕ, _+_, _≤_}
+use mathlib.Core.Bool.{Bool}
+use mathlib.Core.List.{List}
+use lib.ListN.{getD}
+use lib.Dec.{eqb}
+use Rattle.store.specs.Bytes.{numberAt}
+use Rattle.vectors.specs.declared.Head.{Head}
+
+-- the bytes of `case`, as a number
+abbrev pub mark : ℕ
+mark = 0x6573_6163
+
+unfoldable pub marked : List ℕ → Bool
+marked s = eqb (numberAt 4 s 0) mark
+
+unfoldable pub headOf : List ℕ → Head
+headOf s =
+    record {
+      name = numberAt 1 s 4;
+      rule = getD s 5 0;
+      budget = numberAt 4 s 6;
+      output = numberAt 2 s 10;
+      store = numberAt 2 s 12;
+      programme = numberAt 2 s 14;
+    }
+
+abbrev pub mostOutput : ℕ
+mostOutput = 2048
+
+abbrev pub mostBody : ℕ
+mostBody = 32768
+
+-- there is room for the output, and for the name and the sheets
+abbrev pub Fits : Head → Type 0
+Fits h = (h .output ≤ mostOutput) × (h .name + h .store + h .programme ≤ mostBody)

@@ -1,0 +1,105 @@
+//! The caller's arguments: rule and budget (11), and the output's length (12).
+
+use crate::case::{case, Case, Draft};
+use crate::common::*;
+
+pub fn cases() -> Vec<Case> {
+    let mut cases = rules();
+    cases.extend(default_rule());
+    cases.extend(budgets());
+    cases.extend(outputs());
+    cases
+}
+
+const KNOWN: &str = "11 rule not 0, 1, 2, 3 or 255, or budget above 1,000,000";
+
+/// Every known rule number runs; others are refused ahead of all else.
+fn rules() -> Vec<Case> {
+    let own_slot = |rule: u8| {
+        case(format!("rule {rule}"), KNOWN)
+            .block(0, set_integer(0, 42))
+            .rule(rule)
+    };
+    let known = RULES.map(|rule| own_slot(rule).finishes(1, &[integer(42), integer(7)]));
+    let unknown = [4, 128, 254].map(|rule| own_slot(rule).refused_early(11));
+    let mut cases: Vec<Case> = known.into_iter().chain(unknown).collect();
+    cases.push(
+        case("rule before sheets", "Order: 11; store sizes present (1)")
+            .store(vec![])
+            .programme(vec![])
+            .rule(4)
+            .refused_early(11),
+    );
+    cases
+}
+
+/// "Rule 255, the house rule, is rule 0": what sets rule 0 apart from 1, 2
+/// and 3, under 255.
+fn default_rule() -> Vec<Case> {
+    let house = |name| case(name, "Rule 255, the house rule, is rule 0.").rule(255);
+    vec![
+        house("rule 255, a write view is held")
+            .block(0, set(0, literal(write_view(1))))
+            .finishes(1, &[write_view(1), integer(7)]),
+        house("rule 255, a low value goes up")
+            .programme(example_programme([0, 1]))
+            .finishes(2, &[integer(42), integer(42)]),
+        house("rule 255, the region is judged")
+            .block(0, set_integer(1, 9))
+            .refused(14, 0, 0, 0),
+    ]
+}
+
+fn budgets() -> Vec<Case> {
+    let spent = "Before each step, if steps done equal the budget, the run is spent.";
+    let endless = |name, budget| {
+        case(name, "The budget is 0 to 1,000,000.")
+            .block(0, while_do(literal(truth(true)), skip()))
+            .rule(3)
+            .budget(budget)
+    };
+    let example = |budget: u32| {
+        case(format!("two steps, budget {budget}"), spent)
+            .programme(example_programme([0, 1]))
+            .budget(budget)
+    };
+    vec![
+        endless("budget 1000000", 1_000_000).refused(17, 0, 0, 1_000_000),
+        endless("budget 1000001", 1_000_001).refused_early(11),
+        endless("budget of four full bytes", u32::MAX).refused_early(11),
+        example(0).refused(17, 0, 0, 0),
+        example(1).refused(17, 1, 0, 1),
+        example(2).finishes(2, &[integer(42), integer(42)]),
+        case(
+            "skips are no steps",
+            "A step is one guard judged or one assignment made; nothing else counts.",
+        )
+        .blocks(&[(0, skip()), (1, sequence(&vec![skip(); 255]))])
+        .budget(0)
+        .finishes(0, &[integer(5), integer(7)]),
+    ]
+}
+
+/// Two slots ask for two slots' bytes, no fewer and no more.
+fn outputs() -> Vec<Case> {
+    let lent = |name, length| case(name, "12 output not 5 × m bytes").output(length);
+    let full = 2 * OUTPUT_SLOT;
+    let empty = |draft: Draft| draft.store(store(&[1], &[]));
+    let bad_code = "9 or 10 in byte order; 12; run";
+    vec![
+        lent("output just so", full).finishes(0, &[integer(5), integer(7)]),
+        lent("output one byte short", full - 1).refused_early(12),
+        lent("output one byte long", full + 1).refused_early(12),
+        lent("output of no bytes", 0).refused_early(12),
+        empty(lent("output for no slots", 0)).finishes(0, &[]),
+        empty(lent("output of a byte for no slots", 1)).refused_early(12),
+        case("code before output", bad_code)
+            .block(0, vec![0x25])
+            .output(0)
+            .refused(9, 0, 0, 0),
+        case("output before the run", bad_code)
+            .block(0, set_integer(1, 9))
+            .output(0)
+            .refused_early(12),
+    ]
+}

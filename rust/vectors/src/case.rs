@@ -1,0 +1,137 @@
+//! A case: a call of the runner, and the answer that document 01 gives it,
+//! worked by hand.
+
+use crate::common::*;
+use second_runner::Answer;
+
+pub struct Case {
+    pub name: String,
+    /// The sentence of document 01, or of the paper, that the case is about.
+    pub says: &'static str,
+    pub call: Call,
+    /// The length of the output that is lent.
+    pub output: usize,
+    pub expected: Expected,
+}
+
+/// How a call ends.
+#[derive(Clone)]
+pub struct Expected {
+    pub answer: Answer,
+    /// The end store of a finished run; a refused one leaves the output as it
+    /// was.
+    pub end: Option<Bytes>,
+}
+
+/// A run of so many blocks finishes in so many steps with these slots.
+pub fn finished(blocks: usize, steps: u32, end: &[Bytes]) -> Expected {
+    let blocks = u32::try_from(blocks).expect("a number of blocks");
+    Expected {
+        answer: answer_of(0, blocks, 0, steps),
+        end: Some(end.concat()),
+    }
+}
+
+/// A call is refused at this place after so many steps.
+pub fn refused(number: u32, block: u32, offset: usize, steps: u32) -> Expected {
+    Expected {
+        answer: answer_of(number, block, offset, steps),
+        end: None,
+    }
+}
+
+/// A case in the making: document 01's store, no blocks, rule 0, steps
+/// enough and an output of the length that the store sheet asks for, unless
+/// said.
+#[derive(Clone)]
+pub struct Draft {
+    name: String,
+    says: &'static str,
+    store: Bytes,
+    programme: Bytes,
+    rule: u8,
+    budget: u32,
+    output: Option<usize>,
+}
+
+pub fn case(name: impl Into<String>, says: &'static str) -> Draft {
+    Draft {
+        name: name.into(),
+        says,
+        store: example_store(),
+        programme: programme(&[]),
+        rule: 0,
+        budget: AMPLE,
+        output: None,
+    }
+}
+
+impl Draft {
+    pub fn store(mut self, sheet: Bytes) -> Draft {
+        self.store = sheet;
+        self
+    }
+
+    pub fn programme(mut self, sheet: Bytes) -> Draft {
+        self.programme = sheet;
+        self
+    }
+
+    pub fn blocks(self, blocks: &[(u8, Bytes)]) -> Draft {
+        self.programme(programme(blocks))
+    }
+
+    pub fn block(self, region: u8, code: Bytes) -> Draft {
+        self.blocks(&[(region, code)])
+    }
+
+    pub fn rule(mut self, rule: u8) -> Draft {
+        self.rule = rule;
+        self
+    }
+
+    pub fn budget(mut self, budget: u32) -> Draft {
+        self.budget = budget;
+        self
+    }
+
+    pub fn output(mut self, length: usize) -> Draft {
+        self.output = Some(length);
+        self
+    }
+
+    /// The run finishes in so many steps with these values in its slots.
+    pub fn finishes(self, steps: u32, end: &[Bytes]) -> Case {
+        let blocks = usize::from(self.programme[0]);
+        self.ends(finished(blocks, steps, end))
+    }
+
+    /// The call is refused just so.
+    pub fn refused(self, number: u32, block: u32, offset: usize, steps: u32) -> Case {
+        self.ends(refused(number, block, offset, steps))
+    }
+
+    /// "Numbers 1 to 8, 11 and 12 give block, offset and steps 0"
+    pub fn refused_early(self, number: u32) -> Case {
+        self.refused(number, 0, 0, 0)
+    }
+
+    pub fn ends(self, expected: Expected) -> Case {
+        let output = self.output.unwrap_or(OUTPUT_SLOT * slots_said(&self.store));
+        Case {
+            name: self.name,
+            says: self.says,
+            call: call(&self.store, &self.programme, self.rule).budget(self.budget),
+            output,
+            expected,
+        }
+    }
+}
+
+/// The number of slots that a store sheet says, good or not.
+fn slots_said(sheet: &[u8]) -> usize {
+    match sheet {
+        [_, low, high, ..] => usize::from(u16::from_le_bytes([*low, *high])),
+        _ => 0,
+    }
+}

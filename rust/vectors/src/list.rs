@@ -1,0 +1,19 @@
+//! All cases, in the order in which they are played.
+
+use crate::case::Case;
+use crate::{arguments, code, finds, labels, programme_sheets, steps, store_sheets};
+
+pub fn cases() -> Vec<Case> {
+    [
+        finds::cases(),
+        arguments::cases(),
+        store_sheets::cases(),
+        programme_sheets::cases(),
+        code::cases(),
+        steps::cases(),
+        labels::cases(),
+    ]
+    .into_iter()
+    .flatten()
+    .collect()
+}

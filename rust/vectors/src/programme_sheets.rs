@@ -1,0 +1,139 @@
+//! What is wrong with a programme sheet (6 to 8), and what just is not.
+
+use crate::case::{case, Case};
+use crate::common::*;
+
+pub fn cases() -> Vec<Case> {
+    let mut cases = lengths();
+    cases.extend(sizes());
+    cases.extend(regions());
+    cases.extend(sums());
+    cases.push(full_size());
+    cases
+}
+
+fn opening() -> [Bytes; 2] {
+    [integer(5), integer(7)]
+}
+
+fn lengths() -> Vec<Case> {
+    let sheet = |name, sheet| {
+        case(
+            name,
+            "6 its length isn't what its sizes say, it can't hold them",
+        )
+        .programme(sheet)
+    };
+    let good = example_programme([0, 1]);
+    let short = good[..good.len() - 1].to_vec();
+    vec![
+        sheet("programme of no bytes", vec![]).refused_early(6),
+        sheet("programme of two bytes", vec![65, 0xFF]).refused_early(6),
+        sheet("programme one byte short", short).refused_early(6),
+        sheet("programme one byte long", join(&[&good, &[0x20]])).refused_early(6),
+        // The region's principal is not below n.
+        sheet(
+            "programme length before regions",
+            join(&[&programme(&[(9, skip())]), &[0]]),
+        )
+        .refused_early(6),
+        case(
+            "store before programme",
+            "Order: 11; store sizes present (1)",
+        )
+        .store(store(&[1], &[(0, value(4, 0))]))
+        .programme(vec![])
+        .refused_early(5),
+    ]
+}
+
+/// 64 blocks, sequences of skips, with so many bytes of code.
+fn long_code(bytes: usize) -> Bytes {
+    let mut blocks = vec![(0, sequence(&vec![skip(); 255])); 63];
+    let rest = bytes - 63 * 257 - 2;
+    blocks.push((0, sequence(&vec![skip(); rest])));
+    programme(&blocks)
+}
+
+/// k is 0 to 64, c is 0 to 16,384; both are judged before the length.
+fn sizes() -> Vec<Case> {
+    let sheet = |name, sheet| case(name, "7 k or c outside its limit").programme(sheet);
+    vec![
+        sheet("k 64", programme(&vec![(0, skip()); 64])).finishes(0, &opening()),
+        sheet("k 65", programme(&vec![(0, skip()); 65])).refused_early(7),
+        sheet("k 65, no more bytes", vec![65, 0, 0]).refused_early(7),
+        sheet("c 16384", long_code(16_384)).finishes(0, &opening()),
+        sheet("c 16385", long_code(16_385)).refused_early(7),
+        sheet("c 16385, no more bytes", vec![0, 0x01, 0x40]).refused_early(7),
+        sheet("c 16384, no more bytes", vec![0, 0x00, 0x40]).refused_early(6),
+    ]
+}
+
+fn regions() -> Vec<Case> {
+    let region =
+        |name, region| case(name, "8 region's principal not below n").block(region, skip());
+    vec![
+        region("region 01", 0x01).finishes(0, &opening()),
+        region("region 81", 0x81).finishes(0, &opening()),
+        region("region 02", 0x02).refused_early(8),
+        region("region 82", 0x82).refused_early(8),
+        region("region 7F", 0x7F).refused_early(8),
+        case(
+            "region of the second block",
+            "8 in block order; length sum (6)",
+        )
+        .blocks(&[(0, skip()), (2, skip())])
+        .refused_early(8),
+        case(
+            "region before length sum",
+            "8 in block order; length sum (6)",
+        )
+        .programme(programme_of_lengths(&[(0, skip()), (2, skip())], &[7, 7]))
+        .refused_early(8),
+    ]
+}
+
+/// Two blocks of one byte each, saying other lengths.
+fn sums() -> Vec<Case> {
+    let two = [(0, skip()), (0, skip())];
+    let said = |name, lengths: [usize; 2]| {
+        case(name, "block lengths (2 bytes, adding up to c)")
+            .programme(programme_of_lengths(&two, &lengths))
+            .refused_early(6)
+    };
+    vec![
+        said("lengths one short", [1, 0]),
+        said("lengths one long", [1, 2]),
+        // 2 and 65,536: two bytes cannot hold the sum.
+        said("lengths past two bytes", [0xFFFF, 0x0003]),
+        case(
+            "length sum before code",
+            "length sum (6); 9 or 10 in byte order",
+        )
+        .programme(programme_of_lengths(
+            &[(0, vec![0xFF]), (0, skip())],
+            &[1, 2],
+        ))
+        .refused_early(6),
+    ]
+}
+
+/// Everything at its limit: 32 principals, 256 slots, 64 blocks, 16,384 bytes
+/// of code. The last block's last command writes the last slot.
+fn full_size() -> Case {
+    let masks: Vec<u32> = (0..32).map(|i| u32::MAX >> (31 - i)).collect();
+    let slots = vec![(31, integer(7)); 256];
+    let mut blocks = vec![(31, sequence(&vec![skip(); 255])); 63];
+    let write = set_integer(255, -1);
+    let rest = 16_384 - 63 * 257 - 2 - write.len();
+    let mut last = vec![skip(); rest];
+    last.push(write);
+    blocks.push((31, sequence(&last)));
+    let mut end = vec![integer(7); 256];
+    end[255] = integer(-1);
+    case("all at its limit", "The limits and rule numbers stand once")
+        .store(store(&masks, &slots))
+        .blocks(&blocks)
+        .rule(3)
+        .finishes(1, &end)
+}

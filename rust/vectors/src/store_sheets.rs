@@ -1,0 +1,193 @@
+//! What is wrong with a store sheet (1 to 5), and what just is not.
+
+use crate::case::{case, Case};
+use crate::common::*;
+
+pub fn cases() -> Vec<Case> {
+    let mut cases = lengths();
+    cases.extend(sizes());
+    cases.extend(good_tables());
+    cases.extend(bad_tables());
+    cases.extend(owners());
+    cases.extend(good_values());
+    cases.extend(bad_values());
+    cases
+}
+
+/// Principals in a chain, each above those with smaller numbers.
+fn chain(count: usize) -> Vec<u32> {
+    (0..count).map(|i| u32::MAX >> (31 - i)).collect()
+}
+
+fn without_last(sheet: Bytes) -> Bytes {
+    sheet[..sheet.len() - 1].to_vec()
+}
+
+fn lengths() -> Vec<Case> {
+    let sheet = |name, sheet| {
+        case(
+            name,
+            "1 its length isn't what its sizes say, or it can't hold them",
+        )
+        .store(sheet)
+    };
+    vec![
+        sheet("store of no bytes", vec![]).refused_early(1),
+        sheet("store of two bytes", vec![1, 0]).refused_early(1),
+        sheet("store one byte short", without_last(example_store())).refused_early(1),
+        sheet("store one byte long", join(&[&example_store(), &[0]])).refused_early(1),
+        // The order table has no meet.
+        sheet(
+            "store length before order",
+            join(&[&store(&[1, 2], &[]), &[0]]),
+        )
+        .refused_early(1),
+    ]
+}
+
+/// n is 1 to 32, m is 0 to 256; both are judged before the total length.
+fn sizes() -> Vec<Case> {
+    let sheet = |name, sheet| case(name, "2 n or m outside its limit").store(sheet);
+    let zeros = vec![integer(0); 256];
+    let slots = |count| vec![(0, integer(0)); count];
+    vec![
+        sheet("n 0", store(&[], &[])).refused_early(2),
+        sheet("n 32", store(&chain(32), &[(31, integer(5))])).finishes(0, &[integer(5)]),
+        sheet("n 33", store(&[0; 33], &[])).refused_early(2),
+        sheet("n 255, no more bytes", vec![255, 0, 0]).refused_early(2),
+        sheet("m 256", store(&[1], &slots(256))).finishes(0, &zeros),
+        sheet("m 257, no more bytes", vec![1, 0x01, 0x01]).refused_early(2),
+        sheet("m 256, no more bytes", vec![1, 0x00, 0x01]).refused_early(1),
+    ]
+}
+
+fn good_tables() -> Vec<Case> {
+    let good = |name, masks: &[u32]| {
+        case(
+            name,
+            "The table is good when no bit n or higher is set, each i stands below itself",
+        )
+        .store(store(masks, &[]))
+        .finishes(0, &[])
+    };
+    vec![
+        good("order: the top has number 0", &[0b11, 0b10]),
+        good("order: a diamond", &DIAMOND),
+        good(
+            "order: five, with a chain",
+            &[0b10001, 0b10011, 0b10111, 0b11111, 0b10000],
+        ),
+    ]
+}
+
+/// One table for each thing that a good table has, lacking that.
+fn bad_tables() -> Vec<Case> {
+    let bad =
+        |name, says, masks: &[u32]| case(name, says).store(store(masks, &[])).refused_early(3);
+    vec![
+        bad("order: bit n is set", "no bit n or higher is set", &[0b11]),
+        bad(
+            "order: bit 31 is set",
+            "no bit n or higher is set",
+            &[0x8000_0001],
+        ),
+        bad(
+            "order: 1 not below itself",
+            "each i stands below itself",
+            &[0b001, 0b001, 0b111],
+        ),
+        bad(
+            "order: two below each other",
+            "no two different principals stand below each other",
+            &[0b11, 0b11],
+        ),
+        // 0 below 1 below 2, yet 0 not below 2; 3 is the top, 4 the bottom.
+        bad(
+            "order: below is not handed on",
+            "what stands below j stands below everything above j",
+            &[0b10001, 0b10011, 0b10110, 0b11111, 0b10000],
+        ),
+        bad(
+            "order: no common lower",
+            "any two have a greatest common lower principal (their meet)",
+            &[0b001, 0b010, 0b111],
+        ),
+        // 3 and 4 both stand above 1 and 2, which are unrelated.
+        bad(
+            "order: no greatest common lower",
+            "any two have a greatest common lower principal (their meet)",
+            &[0b000001, 0b000011, 0b000101, 0b001111, 0b010111, 0b111111],
+        ),
+        bad(
+            "order: no top",
+            "one principal, the top, is above all",
+            &[0b001, 0b011, 0b101],
+        ),
+        case("order before owners", "3; then slot by slot 4 before 5")
+            .store(store(&[1, 2], &[(9, integer(0))]))
+            .refused_early(3),
+    ]
+}
+
+fn owners() -> Vec<Case> {
+    let bad = value(4, 0);
+    let pair = |name, says, slots: &[(u8, Bytes)]| case(name, says).store(store(&PAIR, slots));
+    let below = "4 owner not below n";
+    let order = "then slot by slot 4 before 5";
+    vec![
+        pair("owner n - 1", below, &[(1, integer(0))]).finishes(0, &[integer(0)]),
+        pair("owner n", below, &[(2, integer(0))]).refused_early(4),
+        pair("owner 80", below, &[(0, integer(0)), (0x80, integer(0))]).refused_early(4),
+        pair("owner before value", order, &[(2, bad.clone())]).refused_early(4),
+        pair(
+            "slot 0's value before slot 1's owner",
+            order,
+            &[(0, bad), (2, integer(0))],
+        )
+        .refused_early(5),
+    ]
+}
+
+/// One slot alone, so a view can only be of slot 0.
+fn one_slot(name: &str, says: &'static str, value: Bytes) -> crate::case::Draft {
+    case(name, says).store(store(&[1], &[(0, value)]))
+}
+
+fn good_values() -> Vec<Case> {
+    let good = |name: &str, value: Bytes| {
+        one_slot(
+            name,
+            "A value is a kind byte and a 4-byte payload",
+            value.clone(),
+        )
+        .finishes(0, &[value])
+    };
+    let mut last = vec![(0, integer(0)); 256];
+    last[255].1 = write_view(255);
+    let end: Vec<Bytes> = last.iter().map(|(_, value)| value.clone()).collect();
+    vec![
+        good("value -1", integer(-1)),
+        good("value least integer", integer(i64::from(i32::MIN))),
+        good("value greatest integer", integer(i64::from(i32::MAX))),
+        good("value true", truth(true)),
+        good("value read view", read_view(0)),
+        good("value write view", write_view(0)),
+        case("value view of slot 255", "payload a slot number below m")
+            .store(store(&[1], &last))
+            .finishes(0, &end),
+    ]
+}
+
+fn bad_values() -> Vec<Case> {
+    let bad = |name: &str, value| one_slot(name, "5 value ill-formed", value).refused_early(5);
+    vec![
+        bad("value kind 4", value(4, 0)),
+        bad("value kind 255", value(255, 0)),
+        bad("value truth 2", value(1, 2)),
+        bad("value truth 1 in the second byte", value(1, 0x100)),
+        bad("value read view of slot m", read_view(1)),
+        bad("value write view of slot m", write_view(1)),
+        bad("value view of slot 100 hexadecimal", read_view(0x100)),
+        bad("value view of slot -1", write_view(-1)),
+    ]
+}

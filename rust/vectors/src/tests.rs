@@ -1,0 +1,55 @@
+//! The second runner answers each case as the list says, the stored files are
+//! the list's, and the list has what it should.
+
+use std::collections::BTreeSet;
+use std::fs;
+
+use crate::common::assert_untouched;
+use crate::{file, layout, list, LINES, LIST};
+
+fn numbers() -> BTreeSet<u32> {
+    let cases = list::cases();
+    cases
+        .iter()
+        .map(|case| case.expected.answer.number)
+        .collect()
+}
+
+#[test]
+fn the_second_runner_answers_each_case_as_the_list_says() {
+    for case in list::cases() {
+        let (answer, output) = case.call.lend(case.output);
+        let about = format!("{}: {}", case.name, case.says);
+        assert_eq!(answer, case.expected.answer, "{about}");
+        match case.expected.end {
+            Some(end) => assert_eq!(output, end, "{about}"),
+            None => assert_untouched(&output),
+        }
+    }
+}
+
+/// `cargo run` writes them anew.
+#[test]
+fn the_stored_files_are_those_of_the_list() {
+    let cases = list::cases();
+    let bytes = fs::read(file(LIST)).expect("the list of cases");
+    assert!(bytes == layout::list_bytes(&cases), "{LIST} differs");
+    let lines = fs::read_to_string(file(LINES)).expect("the lines");
+    assert_eq!(lines, layout::lines(&cases), "{LINES} differs");
+}
+
+#[test]
+fn every_number_comes_up() {
+    let all: BTreeSet<u32> = (0..=17).collect();
+    assert_eq!(numbers(), all);
+}
+
+#[test]
+fn names_are_single_lines_and_stand_once() {
+    let mut names = BTreeSet::new();
+    for case in list::cases() {
+        let printable = |byte: u8| (0x20..0x7F).contains(&byte);
+        assert!(case.name.bytes().all(printable), "{}", case.name);
+        assert!(names.insert(case.name.clone()), "{} twice", case.name);
+    }
+}
