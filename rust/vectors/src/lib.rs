@@ -9,6 +9,7 @@
 pub mod case;
 pub mod layout;
 pub mod list;
+pub mod paper;
 
 mod arguments;
 mod code;

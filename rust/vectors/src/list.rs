@@ -1,7 +1,7 @@
 //! All cases, in the order in which they are played.
 
 use crate::case::Case;
-use crate::{arguments, code, finds, labels, programme_sheets, steps, store_sheets};
+use crate::{arguments, code, finds, labels, paper, programme_sheets, steps, store_sheets};
 
 pub fn cases() -> Vec<Case> {
     [
@@ -12,6 +12,7 @@ pub fn cases() -> Vec<Case> {
         code::cases(),
         steps::cases(),
         labels::cases(),
+        paper::cases(),
     ]
     .into_iter()
     .flatten()

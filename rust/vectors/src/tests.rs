@@ -4,7 +4,9 @@
 use std::collections::BTreeSet;
 use std::fs;
 
+use crate::case::Case;
 use crate::common::assert_untouched;
+use crate::paper::{self, Verdict};
 use crate::{file, layout, list, LINES, LIST};
 
 fn numbers() -> BTreeSet<u32> {
@@ -13,6 +15,11 @@ fn numbers() -> BTreeSet<u32> {
         .iter()
         .map(|case| case.expected.answer.number)
         .collect()
+}
+
+fn case_named<'a>(cases: &'a [Case], name: &str) -> &'a Case {
+    let found = cases.iter().find(|case| case.name == name);
+    found.unwrap_or_else(|| panic!("no case {name}"))
 }
 
 #[test]
@@ -51,5 +58,22 @@ fn names_are_single_lines_and_stand_once() {
         let printable = |byte: u8| (0x20..0x7F).contains(&byte);
         assert!(case.name.bytes().all(printable), "{}", case.name);
         assert!(names.insert(case.name.clone()), "{} twice", case.name);
+    }
+}
+
+/// The paper's table, against the answers that the list has for its examples.
+#[test]
+fn the_paper_s_table_comes_out() {
+    let cases = list::cases();
+    for (row, example) in paper::TABLE.iter().zip(1..) {
+        for (rule, verdict) in row.iter().enumerate() {
+            let name = paper::name(example, rule);
+            let finishes = case_named(&cases, &name).expected.answer.number == 0;
+            match verdict {
+                Verdict::Accepted => assert!(finishes, "{name}"),
+                Verdict::Rejected => assert!(!finishes, "{name}"),
+                Verdict::NotProtected => (),
+            }
+        }
     }
 }
