@@ -1,6 +1,6 @@
 //! A small builder for sheets and code, and the two ways a call may end.
 //! It knows document 01's bytes itself and takes nothing from the library but
-//! its public calls.
+//! its public calls. The list of cases in `rust/vectors` is built with it too.
 
 // Each test file uses its own share of these helpers.
 #![allow(dead_code)]

@@ -11,7 +11,8 @@ pub fn cases() -> Vec<Case> {
     cases.extend(unrelated());
     cases.extend(endorsed());
     cases.extend(not_kept());
-    cases.extend(branches());
+    cases.extend(if_parts());
+    cases.extend(bodies());
     cases.extend(after_parts());
     cases.extend(nested_parts());
     cases.extend(crossed_parts());
@@ -61,9 +62,9 @@ fn values_and_targets() -> Vec<Case> {
     ]
 }
 
-/// "for a read, the meet of the view's label and the slot's owner"
+/// Two reads in a row, of which one may be low.
 fn chains() -> Vec<Case> {
-    let says = "Its label: top for a literal; for a read, the meet of the view's label and the slot's owner.";
+    let says = "for a read, the meet of the view's label and the slot's owner";
     let chain = |name, views: [Bytes; 3]| {
         let [low, first, second] = views;
         case(name, says)
@@ -188,51 +189,43 @@ fn not_kept() -> Vec<Case> {
 /// A guard of one read, with the command's byte before it.
 const HEAD: usize = 1 + 1 + LITERAL;
 
+/// A block of region 1 over those slots, slot 0 holding this truth value.
+fn on_flag(name: &str, flag: bool, code: &Bytes, rule: u8) -> Draft {
+    high_block(name, BRANCH, truth(flag), code.clone()).rule(rule)
+}
+
 /// The branch's label is judged under rule 3 only, and only at assignments.
-fn branches() -> Vec<Case> {
-    let block = |name, low: bool, code: &Bytes, rule| {
-        high_block(name, BRANCH, truth(low), code.clone()).rule(rule)
-    };
+fn if_parts() -> Vec<Case> {
     let parts = if_else(slot(0), set_integer(1, 41), set_integer(1, 42));
-    let body = while_do(
-        slot(0),
-        sequence(&[set_integer(1, 9), set(0, literal(truth(false)))]),
-    );
-    let high_guard = if_else(slot(3), set_integer(1, 9), skip());
-    let with_flag = store(
-        &PAIR,
-        &[
-            (0, integer(5)),
-            (1, integer(7)),
-            (1, integer(8)),
-            (1, truth(true)),
-        ],
-    );
-    let end = |flag, one| [truth(flag), integer(one), integer(8)];
+    let else_part = HEAD + set_integer(1, 41).len();
+    let low = if_else(slot(0), set_integer(0, 9), skip());
+    let on_high = if_else(slot(2), set_integer(1, 9), skip());
+    let high_flag = store(&PAIR, &[(0, integer(5)), (1, integer(7)), (1, truth(true))]);
     vec![
-        block("then-part on a low guard", true, &parts, 3).refused(16, 0, HEAD, 1),
-        block("else-part on a low guard", false, &parts, 3).refused(
-            16,
-            0,
-            HEAD + set_integer(1, 41).len(),
-            1,
-        ),
-        block("else-part on a low guard, rule 2", false, &parts, 2).finishes(2, &end(false, 42)),
-        block("body on a low guard", true, &body, 3).refused(16, 0, HEAD + 2, 1),
-        block("body on a low guard, rule 2", true, &body, 2).finishes(4, &end(false, 9)),
-        block("body not run on a low guard", false, &body, 3).finishes(1, &end(false, 7)),
-        block(
-            "low slot on a low guard",
-            true,
-            &if_else(slot(0), set_integer(0, 9), skip()),
-            3,
-        )
-        .finishes(2, &[integer(9), integer(7), integer(8)]),
+        on_flag("then-part on a low guard", true, &parts, 3).refused(16, 0, HEAD, 1),
+        on_flag("else-part on a low guard", false, &parts, 3).refused(16, 0, else_part, 1),
+        on_flag("else-part on a low guard, rule 2", false, &parts, 2)
+            .finishes(2, &[truth(false), integer(42), integer(8)]),
+        on_flag("low slot on a low guard", true, &low, 3)
+            .finishes(2, &[integer(9), integer(7), integer(8)]),
         case("high slot on a high guard", BRANCH)
-            .store(with_flag)
-            .block(1, high_guard)
+            .store(high_flag)
+            .block(1, on_high)
             .rule(3)
-            .finishes(2, &[integer(5), integer(9), integer(8), truth(true)]),
+            .finishes(2, &[integer(5), integer(9), truth(true)]),
+    ]
+}
+
+/// The same for a while's body.
+fn bodies() -> Vec<Case> {
+    let commands = [set_integer(1, 9), set(0, literal(truth(false)))];
+    let body = while_do(slot(0), sequence(&commands));
+    vec![
+        on_flag("body on a low guard", true, &body, 3).refused(16, 0, HEAD + 2, 1),
+        on_flag("body on a low guard, rule 2", true, &body, 2)
+            .finishes(4, &[truth(false), integer(9), integer(8)]),
+        on_flag("body not run on a low guard", false, &body, 3)
+            .finishes(1, &[truth(false), integer(7), integer(8)]),
     ]
 }
 

@@ -8,6 +8,7 @@ pub fn cases() -> Vec<Case> {
     cases.extend(sizes());
     cases.extend(regions());
     cases.extend(sums());
+    cases.extend(far_places());
     cases.push(full_size());
     cases
 }
@@ -101,20 +102,40 @@ fn sums() -> Vec<Case> {
             .programme(programme_of_lengths(&two, &lengths))
             .refused_early(6)
     };
+    // Three blocks, the first ill-formed, of two bytes in all.
+    let bad_code = [(0, vec![0xFF]), (0, skip()), (0, vec![])];
+    let before_code = |name, lengths: [usize; 3]| {
+        case(name, "length sum (6); 9 or 10 in byte order")
+            .programme(programme_of_lengths(&bad_code, &lengths))
+            .refused_early(6)
+    };
     vec![
         said("lengths one short", [1, 0]),
         said("lengths one long", [1, 2]),
-        // 2 and 65,536: two bytes cannot hold the sum.
-        said("lengths past two bytes", [0xFFFF, 0x0003]),
-        case(
-            "length sum before code",
-            "length sum (6); 9 or 10 in byte order",
-        )
-        .programme(programme_of_lengths(
-            &[(0, vec![0xFF]), (0, skip())],
-            &[1, 2],
-        ))
-        .refused_early(6),
+        // 65,536 more than c, so that two bytes cannot hold the sum.
+        said("lengths past two bytes", [0xFFFF, 3]),
+        before_code("length sum before code", [1, 1, 1]),
+        before_code("length sum past two bytes, before code", [1, 0xFFFF, 2]),
+    ]
+}
+
+/// One block of 16,384 bytes, its last command an assignment that region 0
+/// may not make; and such an assignment in the last of 64 blocks.
+fn far_places() -> Vec<Case> {
+    let placed = "block and offset of the command's first byte in its block";
+    let write = set_integer(1, 9);
+    let rest = 16_384 - 2 - 63 * 257 - 2 - write.len();
+    let mut parts = vec![sequence(&vec![skip(); 255]); 63];
+    parts.extend([sequence(&vec![skip(); rest]), write.clone()]);
+    let mut blocks = vec![(0, set_integer(0, 9)); 63];
+    blocks.push((0, write.clone()));
+    vec![
+        case("14 at the end of 16384 bytes", placed)
+            .block(0, sequence(&parts))
+            .refused(14, 0, 16_384 - write.len(), 0),
+        case("14 in block 63", placed)
+            .blocks(&blocks)
+            .refused(14, 63, 0, 63),
     ]
 }
 

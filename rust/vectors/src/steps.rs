@@ -117,8 +117,8 @@ fn diamond_store() -> Bytes {
     store(&DIAMOND, &slots)
 }
 
-const CAPABILITY: &str =
-    "each literal and each read result, intermediate ones too, that is a write view must have an owner at or below the region";
+const CAPABILITY: &str = "each literal and each read result, intermediate ones too, \
+    that is a write view must have an owner at or below the region";
 
 /// Region 0 under rule 1, where slot 0 holds a write view of slot 1, which is
 /// above it.
@@ -186,7 +186,7 @@ fn write_views_read() -> Vec<Case> {
             "15 in a sequence after a step",
             sequence(&[set_integer(2, 9), through()]),
         )
-        .refused(15, 0, 2 + 13, 1),
+        .refused(15, 0, 2 + set_integer(2, 9).len(), 1),
     ]
 }
 

@@ -1,13 +1,14 @@
 //! What is wrong with a store sheet (1 to 5), and what just is not.
 
-use crate::case::{case, Case};
+use crate::case::{case, Case, Draft};
 use crate::common::*;
 
 pub fn cases() -> Vec<Case> {
     let mut cases = lengths();
     cases.extend(sizes());
     cases.extend(good_tables());
-    cases.extend(bad_tables());
+    cases.extend(bad_orders());
+    cases.extend(bad_lattices());
     cases.extend(owners());
     cases.extend(good_values());
     cases.extend(bad_values());
@@ -80,53 +81,41 @@ fn good_tables() -> Vec<Case> {
     ]
 }
 
-/// One table for each thing that a good table has, lacking that.
-fn bad_tables() -> Vec<Case> {
-    let bad =
-        |name, says, masks: &[u32]| case(name, says).store(store(masks, &[])).refused_early(3);
+/// One table for each thing that a good table has, lacking that: first what
+/// makes it an order, then meets and a top.
+fn bad_orders() -> Vec<Case> {
+    let bit = "no bit n or higher is set";
+    let itself = "each i stands below itself";
+    let other = "no two different principals stand below each other";
+    let handed_on = "what stands below j stands below everything above j";
+    // 0 below 1 below 2, yet 0 not below 2; 3 is the top, 4 the bottom.
+    let broken = [0b10001, 0b10011, 0b10110, 0b11111, 0b10000];
     vec![
-        bad("order: bit n is set", "no bit n or higher is set", &[0b11]),
-        bad(
-            "order: bit 31 is set",
-            "no bit n or higher is set",
-            &[0x8000_0001],
-        ),
-        bad(
-            "order: 1 not below itself",
-            "each i stands below itself",
-            &[0b001, 0b001, 0b111],
-        ),
-        bad(
-            "order: two below each other",
-            "no two different principals stand below each other",
-            &[0b11, 0b11],
-        ),
-        // 0 below 1 below 2, yet 0 not below 2; 3 is the top, 4 the bottom.
-        bad(
-            "order: below is not handed on",
-            "what stands below j stands below everything above j",
-            &[0b10001, 0b10011, 0b10110, 0b11111, 0b10000],
-        ),
-        bad(
-            "order: no common lower",
-            "any two have a greatest common lower principal (their meet)",
-            &[0b001, 0b010, 0b111],
-        ),
-        // 3 and 4 both stand above 1 and 2, which are unrelated.
-        bad(
-            "order: no greatest common lower",
-            "any two have a greatest common lower principal (their meet)",
-            &[0b000001, 0b000011, 0b000101, 0b001111, 0b010111, 0b111111],
-        ),
-        bad(
-            "order: no top",
-            "one principal, the top, is above all",
-            &[0b001, 0b011, 0b101],
-        ),
+        bad_table("order: bit n is set", bit, &[0b11]),
+        bad_table("order: bit 31 is set", bit, &[0x8000_0001]),
+        bad_table("order: 1 not below itself", itself, &[0b001, 0b001, 0b111]),
+        bad_table("order: two below each other", other, &[0b11, 0b11]),
+        bad_table("order: below is not handed on", handed_on, &broken),
+    ]
+}
+
+fn bad_lattices() -> Vec<Case> {
+    let meet = "any two have a greatest common lower principal (their meet)";
+    let top = "one principal, the top, is above all";
+    // 3 and 4 both stand above 1 and 2, which are unrelated.
+    let two_lower = [0b000001, 0b000011, 0b000101, 0b001111, 0b010111, 0b111111];
+    vec![
+        bad_table("order: no common lower", meet, &[0b001, 0b010, 0b111]),
+        bad_table("order: no greatest common lower", meet, &two_lower),
+        bad_table("order: no top", top, &[0b001, 0b011, 0b101]),
         case("order before owners", "3; then slot by slot 4 before 5")
             .store(store(&[1, 2], &[(9, integer(0))]))
             .refused_early(3),
     ]
+}
+
+fn bad_table(name: &str, says: &'static str, masks: &[u32]) -> Case {
+    case(name, says).store(store(masks, &[])).refused_early(3)
 }
 
 fn owners() -> Vec<Case> {
@@ -149,7 +138,7 @@ fn owners() -> Vec<Case> {
 }
 
 /// One slot alone, so a view can only be of slot 0.
-fn one_slot(name: &str, says: &'static str, value: Bytes) -> crate::case::Draft {
+fn one_slot(name: &str, says: &'static str, value: Bytes) -> Draft {
     case(name, says).store(store(&[1], &[(0, value)]))
 }
 
