@@ -102,6 +102,7 @@ fn run_case(h: Head, body: &[u8], out: &mut [u8], before: &[u8])
 {
     let name = h.name;
     let cut = name + h.store;
+    // Four bytes hold no more, so nothing is cut.
     let budget = (h.budget % 4294967296) as u32;
     let a = runner::run(&body[name..cut], &body[cut..], h.rule, budget, out);
     io::write_all(1, &body[..name]);

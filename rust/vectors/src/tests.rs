@@ -6,8 +6,8 @@ use std::fs;
 
 use second_runner::run;
 
-use crate::case::Case;
-use crate::common::Call;
+use crate::case::{case, Case};
+use crate::common::{integer, read_view, store, Call};
 use crate::paper::{self, Verdict};
 use crate::{file, layout, list, LINES, LIST};
 
@@ -86,4 +86,39 @@ fn the_paper_s_table_comes_out() {
             }
         }
     }
+}
+
+#[test]
+fn a_case_has_the_bytes_that_the_program_reads() {
+    let cases = [case("ab", "")
+        .store(vec![0x51])
+        .programme(vec![0x61, 0x62])
+        .rule(3)
+        .budget(0x0403_0201)
+        .output(0x0605)
+        .refused(17, 1, 2, 3)];
+    let bytes = [
+        b"\x01\x00".as_slice(),
+        b"case\x02\x03\x01\x02\x03\x04\x05\x06\x01\x00\x02\x00",
+        b"ab\x51\x61\x62",
+    ];
+    assert_eq!(layout::list_bytes(&cases), bytes.concat());
+}
+
+#[test]
+fn a_line_tells_the_answer_and_the_output() {
+    let two = store(&[1], &[(0, integer(-2)), (0, read_view(1))]);
+    let none = store(&[1], &[]);
+    let cases = [
+        case("refused", "").refused(17, 1, 2, 3),
+        case("two slots", "")
+            .store(two)
+            .finishes(4, &[integer(-2), read_view(1)]),
+        case("no slots", "").store(none).finishes(0, &[]),
+    ];
+    let lines = "refused: end 17 block 1 at 2 steps 3 output untouched\n\
+        two slots: end 0 block 0 at 0 steps 4 output 00feffffff 0201000000\n\
+        no slots: end 0 block 0 at 0 steps 0 output empty\n\
+        cases played: 3\n";
+    assert_eq!(layout::lines(&cases), lines);
 }
