@@ -36,15 +36,15 @@ fn rules() -> Vec<Case> {
 /// "Rule 255, the house rule, is rule 0": what sets rule 0 apart from 1, 2
 /// and 3, under 255.
 fn default_rule() -> Vec<Case> {
-    let house = |name| case(name, "Rule 255, the house rule, is rule 0.").rule(255);
+    let default = |name| case(name, "Rule 255, the house rule, is rule 0.").rule(255);
     vec![
-        house("rule 255, a write view is held")
+        default("rule 255, a write view is held")
             .block(0, set(0, literal(write_view(1))))
             .finishes(1, &[write_view(1), integer(7)]),
-        house("rule 255, a low value goes up")
+        default("rule 255, a low value goes up")
             .programme(example_programme([0, 1]))
             .finishes(2, &[integer(42), integer(42)]),
-        house("rule 255, the region is judged")
+        default("rule 255, the region is judged")
             .block(0, set_integer(1, 9))
             .refused(14, 0, 0, 0),
     ]

@@ -273,9 +273,9 @@ fn copy_up() -> Example {
     }
 }
 
-/// Example 7 with rL, and so r, not writable by ⊥. (The copy at hand prints
-/// that ⊥ may write rL, but then it would be example 7 again, and says that the
-/// heap has a high reference in its high part.)
+/// Example 7 with rL, and so r, high. (The copy of the paper at hand has "⊥ ≥
+/// O(rL)" here, as in example 7. But it says that this heap violates nihrHH, so
+/// that a high reference holds a high one: a stroke through the ≥ is lost.)
 fn high_copy() -> Example {
     copy_of_view(
         "Example 9: outside the fragment of EPs, completes in FPs",
