@@ -19,19 +19,19 @@ number-lt s b (suc width) at =
     more w = omega arith
 
 -- one byte more fits 64 bits
-pub number-fits : (s : List ℕ) → ((i : ℕ) → getD s i 0 < 256) → (width at : ℕ) → width < 8
-    → numberAt width s at * 256 + 255 < 2 ^ 64
-number-fits s b width at h = omega (arith, number-lt s b width at, pow-mono {i = 8 * width} {j = 56} (omega arith))
+pub number-fits : (s : List ℕ) → ((i : ℕ) → getD s i 0 < 256) → (width at : ℕ) → width < 8 → {sum : ℕ}
+    → sum ≡ numberAt width s at → sum * 256 + 255 < 2 ^ 64
+number-fits s b width at h e = omega (arith, number-lt s b width at, pow-mono {i = 8 * width} {j = 56} (omega arith))
 
 -- a loop from the last byte to the first: none is read, and one more before those that are
 pub number-none : (s : List ℕ) (width at : ℕ) → width ≡ 0 → 0 ≡ numberAt width s at
 unfolding numberAt
 number-none s width at p = rw p refl
 
-pub number-step : (s : List ℕ) (r at r′ at′ : ℕ) → r′ ≡ suc r → at ≡ at′ + 1
-    → getD s at′ 0 + numberAt r s at * 256 ≡ numberAt r′ s at′
+pub number-step : (s : List ℕ) (r at r′ at′ : ℕ) {byte sum : ℕ} → byte ≡ getD s at′ 0 → sum ≡ numberAt r s at
+    → r′ ≡ suc r → at ≡ at′ + 1 → byte + sum * 256 ≡ numberAt r′ s at′
 unfolding numberAt
-number-step s r at r′ at′ p q = rw (p, q) (omega arith)
+number-step s r at r′ at′ b e p q = rw (b, e, p, q) (omega arith)
 
 -- past the end all bytes are 0
 pub byte-past : (s : List ℕ) (at : ℕ) → length s ≤ at → getD s at 0 ≡ 0

@@ -90,8 +90,22 @@ pub fn number_at(s: &[u8], at: usize, width: usize) -> u64
     sum
 }
 
-// The value at `at`, the bytes past the end being 0.
-pub fn value_at(s: &[u8], at: usize) -> Value
+// The number in `width` bytes from `at` on, all of which are there.
+fn number_in(s: &[u8], at: usize, width: usize) -> u64
+    requires { ⌜ (width ≤ 8) × (at + width ≤ length (now s)) ⌝ }
+    ensures { λ r. ⌜ r ≡ numberAt width (now (s .entry)) at ⌝ }
+{
+    let mut left = width;
+    let mut sum: u64 = 0;
+    while 0 < left {
+        left -= 1;
+        sum = wide(s[at + left]) + sum * 256;
+    }
+    sum
+}
+
+// The value at `at`, whose bytes may run past the end.
+fn cut_value_at(s: &[u8], at: usize) -> Value
     ensures { λ r. ⌜ r ≡ valueAt (now (s .entry)) at ⌝ }
 {
     if at < s.len() {
@@ -104,6 +118,22 @@ pub fn value_at(s: &[u8], at: usize) -> Value
             payload: 0,
         }
     }
+}
+
+// The value at `at`, the bytes past the end being 0.
+pub fn value_at(s: &[u8], at: usize) -> Value
+    ensures { λ r. ⌜ r ≡ valueAt (now (s .entry)) at ⌝ }
+{
+    let size = s.len();
+    if size < Value::WIDTH {
+        return cut_value_at(s, at);
+    }
+    if size - Value::WIDTH < at {
+        return cut_value_at(s, at);
+    }
+    let kind = s[at];
+    let payload = number_in(s, at + 1, Value::PAYLOAD);
+    Value { kind, payload }
 }
 
 // Whether the kind is known, and lets the payload be what it is among `slots` slots.

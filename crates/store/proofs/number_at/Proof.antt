@@ -24,7 +24,7 @@ byte : (c : Read) (i : ℕ) → getD (now (c .before .before .before .before .be
 byte c i = c .before .before .before .before .before .shared-slice-known .given i .fits
 
 fits : (c : Read) → c .before .before .before .loop .sum * 256 + 255 < 2 ^ 64
-fits c = rw (c .before .before .before .loop .inv .2) (number-fits _ (byte c) _ _ (omega arith))
+fits c = number-fits _ (byte c) _ _ (omega arith) (c .before .before .before .loop .inv .2)
 
 loop-holds : tie.Need-loop-holds Inv-loop μ-loop
 loop-holds c =
@@ -50,7 +50,7 @@ loop-again : tie.Need-loop-again Inv-loop μ-loop
 loop-again c = (
   c .before .before .before .loop .inv .0,
   omega arith,
-  ap₂ (λ (x y : ℕ). x + y * 256) (c .byte-at .ensures) (c .before .before .before .loop .inv .2) ∙ number-step _ _ _ _ _ (omega arith) (omega arith),
+  number-step _ _ _ _ _ (c .byte-at .ensures) (c .before .before .before .loop .inv .2) (omega arith) (omega arith),
 )
 
 returns : tie.Need-returns Inv-loop μ-loop
