@@ -96,29 +96,31 @@ fn read_expr(code: &[u8], slots: usize, at: usize, deep: usize) -> Reading
     ensures { λ r. ⌜ Answers (readExpr deep slots (now (code .entry)) at) (length (now (code .entry))) r ⌝ }
 {
     let size = code.len();
-    if size <= at {
-        return Reading::Refused {
-            number: Reading::ILL_FORMED,
-            at: size,
-        };
-    }
-    let first = code[at];
-    match first {
-        0x10 => read_value(code, slots, at + 1),
-        0x11 => {
-            if deep == 0 {
-                Reading::Refused {
-                    number: Reading::TOO_DEEP,
-                    at,
-                }
-            } else {
-                read_expr(code, slots, at + 1, deep - 1)
+    let mut here = at;
+    let mut left = deep;
+    while here < size {
+        let first = code[here];
+        if first != 0x11 {
+            if first == 0x10 {
+                return read_value(code, slots, here + 1);
             }
+            return Reading::Refused {
+                number: Reading::ILL_FORMED,
+                at: here,
+            };
         }
-        _ => Reading::Refused {
-            number: Reading::ILL_FORMED,
-            at,
-        },
+        if left == 0 {
+            return Reading::Refused {
+                number: Reading::TOO_DEEP,
+                at: here,
+            };
+        }
+        left -= 1;
+        here += 1;
+    }
+    Reading::Refused {
+        number: Reading::ILL_FORMED,
+        at: size,
     }
 }
 
