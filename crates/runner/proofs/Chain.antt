@@ -1,20 +1,28 @@
 -- Laws of expressions as they stand in code: where the literal is, and the chain of reads from it outwards. Assumes nothing.
 use Prim.Native.Nat.{ℕ, zero, suc, _+_, _-_, _<_, _≤_}
 use mathlib.Core.Path.{_≡_, refl, sym, ap, _∙_}
+use mathlib.Core.Bool.{Bool, true, false}
 use mathlib.Core.List.{List}
 use native.Mathlib.Numerals.{add-one}
 use native.Mathlib.Omega.{arith}
-use lib.ListN.{length}
+use lib.ListN.{length, getD}
+use lib.Bits.{bitAnd}
+use borrow.Author.Tests.{eq-eqb, ne-eqb}
+use Rattle.lattice.specs.Order.{meet, top}
 use Rattle.lattice.specs.declared.Table.{Table}
-use Rattle.store.specs.Result.{Result, ok, refuse, _>>=_}
+use Rattle.store.specs.Result.{Result, ok, refuse, _>>=_, require}
 use Rattle.store.specs.declared.Value.{Value}
-use Rattle.store.specs.Value.{valueAt, valueWidth}
+use Rattle.store.specs.Value.{valueAt, valueWidth, emptySlot}
+use Rattle.store.specs.Sheet.{ownerOf}
+use Rattle.store.specs.Held.{rowOf}
 use Rattle.programme.specs.Syntax.{Expr, literal, read}
-use Rattle.calculus.specs.Calculus.{Setting, Store, Labelled, fetch, eval}
+use Rattle.calculus.specs.Calculus.{Setting, Store, Labelled, contents, mayHold, admit, fetch, eval}
+use Rattle.runner.specs.declared.Terms.{Terms}
+use Rattle.runner.specs.Answers.{Got}
 use Rattle.runner.specs.Layout.{readsOf, ExprAt}
-use Rattle.runner.specs.declared.Evaluated.{Evaluated}
-use Rattle.runner.specs.declared.Evaluated.the-variants as e
-use Rattle.runner.specs.Held.{ValueHeld, EvaluatedAs}
+use Rattle.runner.specs.Held.{LabelHeld, Serves, ValueHeld, EvaluatedAs}
+use Rattle.runner.proofs.Rows.{row-kind, row-payload, row-owner}
+use Rattle.runner.proofs.Labels.{meet-held, owner-held}
 
 module _ (code : List ℕ) where
   -- where an expression ends: after its literal, inside the code
@@ -35,10 +43,10 @@ pub record Gave (t : Table) (k p l : ℕ) (r : Result ℕ Labelled) : Type 0 whe
   pub same : r ≡ ok answer
   pub held : ValueHeld t answer k p l
 
-pub gave : {t : Table} {k p l : ℕ} {r : Result ℕ Labelled} → EvaluatedAs t (e.Value k p l) r → Gave t k p l r
+pub gave : {t : Table} {k p l : ℕ} {r : Result ℕ Labelled} → EvaluatedAs t (Got.Value k p l) r → Gave t k p l r
 gave (EvaluatedAs.gives {x = x} h) = record { answer = x; same = refl; held = h }
 
-pub refused : {t : Table} {n : ℕ} {r : Result ℕ Labelled} → EvaluatedAs t (e.Refused n) r → r ≡ refuse n
+pub refused : {t : Table} {n : ℕ} {r : Result ℕ Labelled} → EvaluatedAs t (Got.Refused n) r → r ≡ refuse n
 refused EvaluatedAs.refuses = refl
 
 module _ (w : Setting) (s : Store) where
@@ -81,40 +89,79 @@ module _ (w : Setting) (s : Store) where
       ∙ ap (λ (m : ℕ). chain m inner) (add-one (readsOf e)) ∙ chain-after (readsOf e) inner
       ∙ ap (λ (r : Result ℕ Labelled). r >>= fetch w s) (eval-chain code e (at + 1) end x)
 
-  -- what is held, and what is left to do
-  pub record Pending (got : Evaluated) (left : ℕ) (whole : Result ℕ Labelled) : Type 0 where
-    pub sofar : Result ℕ Labelled
-    pub means : EvaluatedAs (w .tables .order) got sofar
-    pub rest : chain left sofar ≡ whole
+  -- a value has turned up that is not judged yet, and `left` reads are still to be done: what that comes to
+  pub record Ready (k p l left : ℕ) (whole : Result ℕ Labelled) : Type 0 where
+    pub value : Labelled
+    pub held : ValueHeld (w .tables .order) value k p l
+    pub rest : chain left (admit w value) ≡ whole
 
-  pub pending-none : {got : Evaluated} {left : ℕ} {whole : Result ℕ Labelled} → Pending got left whole → left ≡ 0
-      → EvaluatedAs (w .tables .order) got whole
-  pending-none p h = rw (← p .rest, chain-none _ (p .sofar) h) (p .means)
-
-  pub pending-refused : {n left : ℕ} {whole : Result ℕ Labelled} → Pending (e.Refused n) left whole
-      → EvaluatedAs (w .tables .order) (e.Refused n) whole
-  pending-refused {n} {left} p = rw (← p .rest, refused (p .means), chain-refused left n) EvaluatedAs.refuses
-
-  pub pending-read : {k q l left : ℕ} {whole : Result ℕ Labelled} (next : Evaluated) → Pending (e.Value k q l) left whole → 0 < left
-      → ((x : Labelled) → ValueHeld (w .tables .order) x k q l → EvaluatedAs (w .tables .order) next (fetch w s x))
-      → Pending next (left - 1) whole
-  unfolding _>>=_
-  pending-read {left = left} next p h f =
-      let g = gave (p .means) in
-      record {
-        sofar = fetch w s (g .answer);
-        means = f (g .answer) (g .held);
-        rest = ap (λ (r : Result ℕ Labelled). chain (left - 1) (r >>= fetch w s)) (sym (g .same)) ∙ sym (chain-one left (p .sofar) h) ∙ p .rest;
-      }
-
-  -- the literal is evaluated, and all reads are left
-  pub pending-all : {got : Evaluated} (code : List ℕ) (e : Expr) (at inner end left : ℕ) → ExprAt code e at end → inner ≡ at + readsOf e
-      → left ≡ inner - at → EvaluatedAs (w .tables .order) got (eval w s (literal (valueAt code (inner + 1))))
-      → Pending got left (eval w s e)
-  pending-all code e at inner end left x q n h =
+  -- the literal, with all reads to be done
+  pub ready-all : (code : List ℕ) (e : Expr) (at inner end left k p l : ℕ) (v : Value) → ExprAt code e at end → inner ≡ at + readsOf e
+      → left ≡ inner - at → v ≡ valueAt code (inner + 1) → k ≡ v .kind → p ≡ v .payload → LabelHeld (w .tables .order) (top (w .tables .order)) l
+      → Ready k p l left (eval w s e)
+  unfolding eval
+  ready-all code e at inner end left k p l v x q n r hk hp h =
       let m : left ≡ readsOf e = omega arith in
       record {
-        sofar = eval w s (literal (valueAt code (inner + 1)));
-        means = h;
+        value = record { value = valueAt code (inner + 1); label = top (w .tables .order) };
+        held = record {
+          kind = sym (hk ∙ ap (λ (y : Value). y .kind) r);
+          payload = sym (hp ∙ ap (λ (y : Value). y .payload) r);
+          label = h;
+        };
         rest = rw (m, q) (eval-chain code e at end x);
       }
+
+  module _ {k p l left : ℕ} {whole : Result ℕ Labelled} (y : Ready k p l left whole) (b : Bool)
+      (m : b ≡ mayHold w (record { kind = k; payload = p })) where
+    may : mayHold w (y .value .value) ≡ b
+    may = rw (y .held .kind, y .held .payload) (sym m)
+
+    barred : b ≡ false → admit w (y .value) ≡ refuse 15
+    unfolding admit require
+    barred n = rw (may ∙ n) refl
+
+    pub ready-barred : b ≡ false → EvaluatedAs (w .tables .order) (Got.Refused 15) whole
+    ready-barred n = rw (← y .rest, barred n, chain-refused left 15) EvaluatedAs.refuses
+
+    admitted : b ≡ true → admit w (y .value) ≡ ok (y .value)
+    unfolding admit require
+    admitted h = rw (may ∙ h) refl
+
+    pub ready-done : b ≡ true → left ≡ 0 → EvaluatedAs (w .tables .order) (Got.Value k p l) whole
+    ready-done h z = rw (← y .rest, chain-none left (admit w (y .value)) z, admitted h) (EvaluatedAs.gives (y .held))
+
+    -- one more read
+    reads : b ≡ true → (left ≡ 0 → ⊥) → whole ≡ chain (left - 1) (fetch w s (y .value))
+    unfolding _>>=_
+    reads h z = sym (y .rest) ∙ chain-one left (admit w (y .value)) (omega arith) ∙ ap (λ (r : Result ℕ Labelled). chain (left - 1) (r >>= fetch w s)) (admitted h)
+
+    unread : (k ≡ 2 → ⊥) → fetch w s (y .value) ≡ refuse 13
+    unfolding fetch require
+    unread n = rw (y .held .kind, ne-eqb k 2 n) refl
+
+    pub ready-kind : b ≡ true → (left ≡ 0 → ⊥) → (k ≡ 2 → ⊥) → EvaluatedAs (w .tables .order) (Got.Refused 13) whole
+    ready-kind h z n = rw (reads h z, unread n, chain-refused (left - 1) 13) EvaluatedAs.refuses
+
+    fetched : k ≡ 2
+        → fetch w s (y .value) ≡ admit w (record { value = contents s p; label = meet (w .tables .order) (y .value .label) (ownerOf (w .tables) p) })
+    unfolding fetch require
+    fetched q = rw (y .held .kind, eq-eqb k 2 q, y .held .payload) refl
+
+    pub ready-next : {terms : Terms} {masks : List ℕ} (v : Serves w terms masks) (row : List ℕ) → b ≡ true → (left ≡ 0 → ⊥) → k ≡ 2
+        → row ≡ rowOf (getD s p emptySlot) (ownerOf (w .tables) p)
+        → Ready (getD row 0 0) (getD row 1 0) (bitAnd l (getD masks (getD row 2 0) 0)) (left - 1) whole
+    ready-next v row h z n r =
+        let o = getD s p emptySlot in
+        let i = ownerOf (w .tables) p in
+        record {
+          value = record { value = contents s p; label = meet (w .tables .order) (y .value .label) i };
+          held = record {
+            kind = sym (row-kind o i row r);
+            payload = sym (row-payload o i row r);
+            label =
+                rw (row-owner o i row r, ← v .masks)
+                (meet-held (w .tables .order) (y .held .label) (owner-held (w .tables) (v .grounds) p) (v .grounds .order));
+          };
+          rest = sym (reads h z ∙ ap (λ (r : Result ℕ Labelled). chain (left - 1) r) (fetched n));
+        }

@@ -14,11 +14,8 @@ use Rattle.store.specs.Sheet.{ownerOf}
 use Rattle.programme.specs.Syntax.{Expr}
 use Rattle.calculus.specs.Rules.{RuleSet, accessControl, capability, explicitProvenance, fullProvenance, labelsJudged, allAbove}
 use Rattle.calculus.specs.Calculus.{Setting, Store, Labelled, Write, authorised, reliable, eval, judge, permit, assignment}
+use Rattle.runner.specs.Answers.{Got, Ruling, rulingBy, ruling, Making}
 use Rattle.runner.specs.declared.Terms.{Terms}
-use Rattle.runner.specs.declared.Evaluated.the-variants as e
-use Rattle.runner.specs.declared.Verdict.the-variants as v
-use Rattle.runner.specs.declared.Made.{Made}
-use Rattle.runner.specs.declared.Made.the-variants as m
 use Rattle.runner.specs.Held.{LabelHeld, judgesLabels, judgesBranch, unspent, Serves, ValueHeld, EvaluatedAs, JudgedAs, MadeAs}
 use Rattle.runner.proofs.Labels.{bit-held, bits-held}
 use Rattle.runner.proofs.Admission.{in-region}
@@ -114,25 +111,25 @@ module _ (w : Setting) (terms : Terms) (masks : List ℕ) (h : Serves w terms ma
 
 -- an assignment whose target and value are known: the region lacks authority, the labels are too low, it is made
 module _ (w : Setting) (x y : Labelled) (b : Label) (i : ℕ) (q : x .value .payload ≡ i) where
-  pub permit-14 : authorised w i ≡ false → MadeAs (w .tables) (m.Refused 14) (permit w b x y)
+  pub permit-14 : authorised w i ≡ false → MadeAs (w .tables) (Making.Refused 14) (permit w b x y)
   unfolding permit require
   permit-14 n = rw (q, n) MadeAs.refuses
 
   pub permit-16 : authorised w i ≡ true → reliable w i (labelsJudged (w .rules) (x .label) (y .label) b) ≡ false
-      → MadeAs (w .tables) (m.Refused 16) (permit w b x y)
+      → MadeAs (w .tables) (Making.Refused 16) (permit w b x y)
   unfolding permit require
   permit-16 a n = rw (q, a, n) MadeAs.refuses
 
   pub permit-writes : (k p l o : ℕ) → ValueHeld (w .tables .order) y k p l → ownerOf (w .tables) i ≡ o
       → authorised w i ≡ true → reliable w i (labelsJudged (w .rules) (x .label) (y .label) b) ≡ true
-      → MadeAs (w .tables) (m.Write i k p o) (permit w b x y)
+      → MadeAs (w .tables) (Making.Write i k p o) (permit w b x y)
   unfolding permit require
   permit-writes k p l o s u a n = rw (q, a, n) (MadeAs.writes refl (s .kind) (s .payload) u)
 
 -- a guard: its expression is refused, its kind is wrong, it passes, it fails
 module _ (w : Setting) (s : Store) (g : Expr) where
-  pub judge-refused : {n : ℕ} → EvaluatedAs (w .tables .order) (e.Refused n) (eval w s g)
-      → JudgedAs (w .tables .order) (v.Refused n) (judge w s g)
+  pub judge-refused : {n : ℕ} → EvaluatedAs (w .tables .order) (Got.Refused n) (eval w s g)
+      → JudgedAs (w .tables .order) (Ruling.Refused n) (judge w s g)
   unfolding judge _>>=_
   judge-refused a = rw (refused a) JudgedAs.refuses
 
@@ -141,23 +138,26 @@ module _ (w : Setting) (s : Store) (g : Expr) where
   unfolding judge _>>=_ require
   judged k p l x r h q = rw (r, h .kind, eq-eqb k 1 q, h .payload) refl
 
-  module _ {k p l : ℕ} (a : EvaluatedAs (w .tables .order) (e.Value k p l) (eval w s g)) where
-    pub judge-kind : (k ≡ 1 → ⊥) → JudgedAs (w .tables .order) (v.Refused 13) (judge w s g)
+  module _ {k p l : ℕ} (a : EvaluatedAs (w .tables .order) (Got.Value k p l) (eval w s g)) where
+    pub judge-kind : (k ≡ 1 → ⊥) → JudgedAs (w .tables .order) (Ruling.Refused 13) (judge w s g)
     unfolding judge _>>=_ require
     judge-kind ne = let d = gave a in rw (d .same, d .held .kind, ne-eqb k 1 ne) JudgedAs.refuses
 
-    pub judge-passes : k ≡ 1 → p ≡ 1 → JudgedAs (w .tables .order) (v.Passes l) (judge w s g)
-    judge-passes q y =
-        let d = gave a in rw (judged k p l (d .answer) (d .same) (d .held) q) (JudgedAs.passes (eq-eqb p 1 y) (d .held .label))
+    -- it passes or fails by its payload
+    ruled : (b : Bool) → k ≡ 1 → eqb p 1 ≡ b → JudgedAs (w .tables .order) (rulingBy true b (record { refusal = 0; passes = b; label = l })) (judge w s g)
+    unfolding rulingBy
+    ruled true q y =
+        let d = gave a in rw (judged k p l (d .answer) (d .same) (d .held) q) (JudgedAs.passes y (d .held .label))
+    ruled false q y =
+        let d = gave a in rw (judged k p l (d .answer) (d .same) (d .held) q) (JudgedAs.fails y (d .held .label))
 
-    pub judge-fails : k ≡ 1 → (p ≡ 1 → ⊥) → JudgedAs (w .tables .order) (v.Fails l) (judge w s g)
-    judge-fails q n =
-        let d = gave a in rw (judged k p l (d .answer) (d .same) (d .held) q) (JudgedAs.fails (ne-eqb p 1 n) (d .held .label))
+    pub judge-ruled : k ≡ 1 → JudgedAs (w .tables .order) (ruling (record { refusal = 0; passes = eqb p 1; label = l })) (judge w s g)
+    judge-ruled q = ruled (eqb p 1) q refl
 
 -- an assignment: its target is refused, or no write view; its value is refused; it is judged
 module _ (w : Setting) (s : Store) (b : Label) (x y : Expr) where
-  pub assign-refused : {n : ℕ} → EvaluatedAs (w .tables .order) (e.Refused n) (eval w s x)
-      → MadeAs (w .tables) (m.Refused n) (assignment w b s x y)
+  pub assign-refused : {n : ℕ} → EvaluatedAs (w .tables .order) (Got.Refused n) (eval w s x)
+      → MadeAs (w .tables) (Making.Refused n) (assignment w b s x y)
   unfolding assignment _>>=_
   assign-refused a = rw (refused a) MadeAs.refuses
 
@@ -166,18 +166,18 @@ module _ (w : Setting) (s : Store) (b : Label) (x y : Expr) where
   unfolding assignment _>>=_ require
   targeted k p l z r h q = rw (r, h .kind, eq-eqb k 3 q) refl
 
-  module _ {k p l : ℕ} (a : EvaluatedAs (w .tables .order) (e.Value k p l) (eval w s x)) where
-    pub assign-kind : (k ≡ 3 → ⊥) → MadeAs (w .tables) (m.Refused 13) (assignment w b s x y)
+  module _ {k p l : ℕ} (a : EvaluatedAs (w .tables .order) (Got.Value k p l) (eval w s x)) where
+    pub assign-kind : (k ≡ 3 → ⊥) → MadeAs (w .tables) (Making.Refused 13) (assignment w b s x y)
     unfolding assignment _>>=_ require
     assign-kind ne = let d = gave a in rw (d .same, d .held .kind, ne-eqb k 3 ne) MadeAs.refuses
 
-    pub assign-value-refused : {n : ℕ} → k ≡ 3 → EvaluatedAs (w .tables .order) (e.Refused n) (eval w s y)
-        → MadeAs (w .tables) (m.Refused n) (assignment w b s x y)
+    pub assign-value-refused : {n : ℕ} → k ≡ 3 → EvaluatedAs (w .tables .order) (Got.Refused n) (eval w s y)
+        → MadeAs (w .tables) (Making.Refused n) (assignment w b s x y)
     unfolding _>>=_
     assign-value-refused q u =
         let d = gave a in rw (targeted k p l (d .answer) (d .same) (d .held) q, refused u) MadeAs.refuses
 
-    pub assign-judged : {i j n : ℕ} (r : Made) → k ≡ 3 → EvaluatedAs (w .tables .order) (e.Value i j n) (eval w s y)
+    pub assign-judged : {i j n : ℕ} (r : Making) → k ≡ 3 → EvaluatedAs (w .tables .order) (Got.Value i j n) (eval w s y)
         → ((x′ y′ : Labelled) → x′ .value .payload ≡ p → LabelHeld (w .tables .order) (x′ .label) l
         → ValueHeld (w .tables .order) y′ i j n → MadeAs (w .tables) r (permit w b x′ y′))
         → MadeAs (w .tables) r (assignment w b s x y)

@@ -10,8 +10,8 @@ use Rattle.store.specs.Result.{Result, ok, _>>=_}
 use Rattle.store.proofs.Result.{bind-assoc}
 use Rattle.programme.specs.Syntax.{Cmds}
 use Rattle.calculus.specs.Calculus.{Setting, State, Stop, execs, Frame, inSeq, resume}
+use Rattle.runner.specs.Answers.{Control}
 use Rattle.runner.specs.declared.Terms.{Terms}
-use Rattle.runner.specs.declared.Move.the-variants as v
 use Rattle.runner.specs.Layout.{size, CmdsAt, none, more}
 use Rattle.runner.specs.Held.{LabelHeld}
 use Rattle.runner.specs.Moves.{Row, labelIn, Frames, base, onSeq, onIf, onWhile, Enters, Leaves, Moves, Left, CanGoOn}
@@ -207,7 +207,7 @@ module _ {t : Terms} {code ends : List ℕ} {frames : List (List ℕ)} {at depth
     count-inside = some-byte code (rowPosition frames depth + 1) (omega (arith, child-few))
 
     pub seq-done : rowChild frames depth + 1 ≡ getD code (rowPosition frames depth + 1) 0 → (masks : List ℕ) (rows : List (List ℕ))
-        → Left t masks code ends frames frames rows at depth steps (v.Leave at (depth - 1) steps)
+        → Left t masks code ends frames frames rows at depth steps (Control.Leave at (depth - 1) steps)
     unfolding Moves
     seq-done n masks rows =
         record {
@@ -217,7 +217,7 @@ module _ {t : Terms} {code ends : List ℕ} {frames : List (List ℕ)} {at depth
 
     pub seq-next : (rowChild frames depth + 1 ≡ getD code (rowPosition frames depth + 1) 0 → ⊥) → (masks : List ℕ) (rows : List (List ℕ))
         → Left t masks code ends frames (nextTaken frames depth) rows at depth steps
-        (v.Enter at depth (rowLabel frames depth) steps)
+        (Control.Enter at depth (rowLabel frames depth) steps)
     unfolding Moves
     seq-next n masks rows =
         record {
@@ -226,7 +226,7 @@ module _ {t : Terms} {code ends : List ℕ} {frames : List (List ℕ)} {at depth
         }
 
   pub if-done : getD code (rowPosition frames depth) 0 ≡ 0x23 → (masks : List ℕ) (rows : List (List ℕ))
-      → Left t masks code ends frames frames rows at depth steps (v.Leave (getD ends (rowPosition frames depth) 0) (depth - 1) steps)
+      → Left t masks code ends frames frames rows at depth steps (Control.Leave (getD ends (rowPosition frames depth) 0) (depth - 1) steps)
   unfolding Moves
   if-done q masks rows =
       record {
@@ -236,7 +236,7 @@ module _ {t : Terms} {code ends : List ℕ} {frames : List (List ℕ)} {at depth
 
   pub while-again : (getD code (rowPosition frames depth) 0 ≡ 0x22 → ⊥) → (getD code (rowPosition frames depth) 0 ≡ 0x23 → ⊥)
       → (masks : List ℕ) (rows : List (List ℕ))
-      → Left t masks code ends frames frames rows at depth steps (v.Enter (rowPosition frames depth) (depth - 1) (labelIn frames (t .top) (depth - 1)) steps)
+      → Left t masks code ends frames frames rows at depth steps (Control.Enter (rowPosition frames depth) (depth - 1) (labelIn frames (t .top) (depth - 1)) steps)
   unfolding Moves
   while-again n2 n3 masks rows =
       record {

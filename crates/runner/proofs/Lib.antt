@@ -1,3 +1,4 @@
+pub mod Answered
 pub mod Rows
 pub mod Labels
 pub mod Admission

@@ -13,13 +13,8 @@ use Rattle.store.specs.Held.{heldOf}
 use Rattle.calculus.specs.Rules.{RuleSet, accessControl, capability, explicitProvenance, fullProvenance, judgesViews, judgesRegion}
 use Rattle.calculus.specs.Calculus.{Setting, Store, Labelled, Judged, Write}
 use Rattle.calculus.specs.Blocks.{mostBudget}
+use Rattle.runner.specs.Answers.{Got, Ruling, Making}
 use Rattle.runner.specs.declared.Terms.{Terms}
-use Rattle.runner.specs.declared.Evaluated.{Evaluated}
-use Rattle.runner.specs.declared.Evaluated.the-variants as e
-use Rattle.runner.specs.declared.Verdict.{Verdict}
-use Rattle.runner.specs.declared.Verdict.the-variants as v
-use Rattle.runner.specs.declared.Made.{Made}
-use Rattle.runner.specs.declared.Made.the-variants as m
 
 -- a label is held as its principal's mask
 pub record LabelHeld (t : Table) (l : Label) (x : ℕ) : Type 0 where
@@ -75,18 +70,18 @@ pub record ValueHeld (t : Table) (x : Labelled) (k p l : ℕ) : Type 0 where
   pub label : LabelHeld t (x .label) l
 
 -- what an expression's, a guard's and an assignment's answer mean
-pub data EvaluatedAs (t : Table) : Evaluated → Result ℕ Labelled → Type 0 where
-  gives : {k p l : ℕ} {x : Labelled} → ValueHeld t x k p l → EvaluatedAs t (e.Value k p l) (ok x)
-  refuses : {n : ℕ} → EvaluatedAs t (e.Refused n) (refuse n)
+pub data EvaluatedAs (t : Table) : Got → Result ℕ Labelled → Type 0 where
+  gives : {k p l : ℕ} {x : Labelled} → ValueHeld t x k p l → EvaluatedAs t (Got.Value k p l) (ok x)
+  refuses : {n : ℕ} → EvaluatedAs t (Got.Refused n) (refuse n)
 
-pub data JudgedAs (t : Table) : Verdict → Result ℕ Judged → Type 0 where
-  passes : {l : ℕ} {j : Judged} → j .passes ≡ true → LabelHeld t (j .label) l → JudgedAs t (v.Passes l) (ok j)
-  fails : {l : ℕ} {j : Judged} → j .passes ≡ false → LabelHeld t (j .label) l → JudgedAs t (v.Fails l) (ok j)
-  refuses : {n : ℕ} → JudgedAs t (v.Refused n) (refuse n)
+pub data JudgedAs (t : Table) : Ruling → Result ℕ Judged → Type 0 where
+  passes : {l : ℕ} {j : Judged} → j .passes ≡ true → LabelHeld t (j .label) l → JudgedAs t (Ruling.Passes l) (ok j)
+  fails : {l : ℕ} {j : Judged} → j .passes ≡ false → LabelHeld t (j .label) l → JudgedAs t (Ruling.Fails l) (ok j)
+  refuses : {n : ℕ} → JudgedAs t (Ruling.Refused n) (refuse n)
 
-pub data MadeAs (w : Tables) : Made → Result ℕ Write → Type 0 where
-  writes : {i k p o : ℕ} {x : Write} → x .slot ≡ i → x .value .kind ≡ k → x .value .payload ≡ p → ownerOf w i ≡ o → MadeAs w (m.Write i k p o) (ok x)
-  refuses : {n : ℕ} → MadeAs w (m.Refused n) (refuse n)
+pub data MadeAs (w : Tables) : Making → Result ℕ Write → Type 0 where
+  writes : {i k p o : ℕ} {x : Write} → x .slot ≡ i → x .value .kind ≡ k → x .value .payload ≡ p → ownerOf w i ≡ o → MadeAs w (Making.Write i k p o) (ok x)
+  refuses : {n : ℕ} → MadeAs w (Making.Refused n) (refuse n)
 
 -- the machine can judge: some setting and store stand behind its numbers
 pub record CanJudge (t : Terms) (masks : List ℕ) (rows : List (List ℕ)) : Type 0 where

@@ -1,4 +1,5 @@
 pub mod Layout
+pub mod Answers
 pub mod Held
 pub mod Moves
 pub mod Playing

@@ -13,9 +13,8 @@ use Rattle.programme.specs.Syntax.{Cmd, Cmds}
 use Rattle.programme.specs.Code.{mostDeep}
 use Rattle.programme.specs.Sheet.{mostCode}
 use Rattle.calculus.specs.Calculus.{Setting, State, Stop, stopAt, exec, Frame, inSeq, inIf, inWhile, resume}
+use Rattle.runner.specs.Answers.{Control}
 use Rattle.runner.specs.declared.Terms.{Terms}
-use Rattle.runner.specs.declared.Move.{Move}
-use Rattle.runner.specs.declared.Move.the-variants as v
 use Rattle.runner.specs.declared.Ran.{Ran}
 use Rattle.runner.specs.declared.Ran.the-variants as r
 use Rattle.runner.specs.Layout.{size, CmdAt, CmdsAt}
@@ -95,10 +94,10 @@ pub record StopsAs (w : Setting) (rows : List (List ℕ)) (number at steps : ℕ
   pub held : StateHeld w rows steps state
   pub means : whole ≡ refuse (stopAt at state number)
 
-unfoldable pub Moves : Setting → List ℕ → List ℕ → List (List ℕ) → List (List ℕ) → ℕ → Move → Result Stop State → Type 0
-Moves w code ends frames rows top (v.Enter at depth x steps) whole = EntersAs w code ends frames rows top at depth x steps whole
-Moves w code ends frames rows top (v.Leave at depth steps) whole = LeavesAs w code ends frames rows top at depth steps whole
-Moves w code ends frames rows top (v.Stopped number at steps) whole = StopsAs w rows number at steps whole
+unfoldable pub Moves : Setting → List ℕ → List ℕ → List (List ℕ) → List (List ℕ) → ℕ → Control → Result Stop State → Type 0
+Moves w code ends frames rows top (Control.Enter at depth x steps) whole = EntersAs w code ends frames rows top at depth x steps whole
+Moves w code ends frames rows top (Control.Leave at depth steps) whole = LeavesAs w code ends frames rows top at depth steps whole
+Moves w code ends frames rows top (Control.Stopped number at steps) whole = StopsAs w rows number at steps whole
 
 -- how a block that ended means its result
 pub record DoneAs (w : Setting) (rows : List (List ℕ)) (steps : ℕ) (whole : Result Stop State) : Type 0 where
@@ -114,21 +113,21 @@ RanAs w rows (r.Stopped number at steps) whole = StopsAs w rows number at steps 
 unfoldable pub rank : List ℕ → ℕ → ℕ
 rank code at = elim (eqb (getD code at 0) 0x20 or eqb (getD code at 0) 0x22) [ true ↦ (mostCode - at) * 40 + 1 | false ↦ 1 ]
 
-unfoldable pub weight : List ℕ → ℕ → Move → ℕ
-weight code budget (v.Enter at depth x steps) = (budget - steps) * 700000 + rank code at
-weight code budget (v.Leave at depth steps) = (budget - steps) * 700000 + ((mostCode - at) * 40 + depth + 2)
-weight code budget (v.Stopped number at steps) = 0
+unfoldable pub weight : List ℕ → ℕ → Control → ℕ
+weight code budget (Control.Enter at depth x steps) = (budget - steps) * 700000 + rank code at
+weight code budget (Control.Leave at depth steps) = (budget - steps) * 700000 + ((mostCode - at) * 40 + depth + 2)
+weight code budget (Control.Stopped number at steps) = 0
 
 -- what a move from an entered, or a left, command ensures: the same whole, and less weight
-pub record Entered (t : Terms) (masks code ends : List ℕ) (frames frames′ rows rows′ : List (List ℕ)) (at depth x steps : ℕ) (next : Move) : Type 0 where
+pub record Entered (t : Terms) (masks code ends : List ℕ) (frames frames′ rows rows′ : List (List ℕ)) (at depth x steps : ℕ) (next : Control) : Type 0 where
   pub same : (w : Setting) (whole : Result Stop State) → Serves w t masks
       → EntersAs w code ends frames rows (t .top) at depth x steps whole → Moves w code ends frames′ rows′ (t .top) next whole
-  pub less : weight code (t .budget) next < weight code (t .budget) (v.Enter at depth x steps)
+  pub less : weight code (t .budget) next < weight code (t .budget) (Control.Enter at depth x steps)
 
-pub record Left (t : Terms) (masks code ends : List ℕ) (frames frames′ rows : List (List ℕ)) (at depth steps : ℕ) (next : Move) : Type 0 where
+pub record Left (t : Terms) (masks code ends : List ℕ) (frames frames′ rows : List (List ℕ)) (at depth steps : ℕ) (next : Control) : Type 0 where
   pub same : (w : Setting) (whole : Result Stop State) → Serves w t masks
       → LeavesAs w code ends frames rows (t .top) at depth steps whole → Moves w code ends frames′ rows (t .top) next whole
-  pub less : weight code (t .budget) next < weight code (t .budget) (v.Leave at depth steps)
+  pub less : weight code (t .budget) next < weight code (t .budget) (Control.Leave at depth steps)
 
 -- the machine can go on: some setting, state and whole stand behind its numbers
 pub record CanEnter (t : Terms) (masks code ends : List ℕ) (frames rows : List (List ℕ)) (at depth x steps : ℕ) : Type 0 where

@@ -1,6 +1,7 @@
 // The step machine: runs one block in place over its code bytes, with an explicit stack of open commands.
 // Definitions in specs/, laws in proofs/.
 ghost use mathlib.Core.Path.{_≡_};
+ghost use mathlib.Core.Logic.{_⊎_};
 ghost use mathlib.Core.List.{List, [], _∷_};
 ghost use Prim.Native.Nat.{ℕ, _+_, _*_, _≤_, _<_};
 ghost use lib.ListN.{length, getD, set};
@@ -13,7 +14,7 @@ ghost use Rattle.calculus.specs.Rules.{labelsJudged, RuleSet, rulesOf};
 ghost use Rattle.calculus.specs.Calculus.{Setting, Store, Labelled, State, Write, mayHold, fetch, eval, judge, permit, assignment, reliable, written, exec};
 ghost use Rattle.runner.specs.Layout.{ExprAt, ExprIn, TwoExprs, CmdAt, readsOf};
 ghost use Rattle.runner.specs.Held.{LabelHeld, Grounds, Serves, StoreHeld, ValueHeld, EvaluatedAs, JudgedAs, MadeAs, CanJudge, unspent};
-ghost use Rattle.runner.specs.declared.Move.the-variants.{Enter};
+ghost use Rattle.runner.specs.Answers.{Got, got, Ruling, ruling, Making, making, Control, control};
 ghost use Rattle.runner.specs.Moves.{labelIn, StateHeld, RanAs, Entered, Left, CanEnter, CanGoOn, CanRun};
 ghost use Rattle.store.specs.Result.{Result, ok, unplaced};
 ghost use Rattle.programme.specs.Code.{readBlock};
@@ -44,48 +45,39 @@ pub struct Terms {
     pub budget: u32,
 }
 
-// An expression's value with its label, or the number of its refusal.
-pub enum Evaluated {
-    Value { kind: u64, payload: u64, label: u32 },
-    Refused(u32),
+// An expression's value with its label; or the number of its refusal, where that is not 0. (Kind and payload stand apart: two numbers
+// that lie side by side would be written one by one and read as one, which stalls.)
+pub struct Evaluated {
+    pub kind: u64,
+    pub refusal: u32,
+    pub label: u32,
+    pub payload: u64,
 }
 
-// A guard's verdict with its label, or the number of its refusal.
-pub enum Verdict {
-    Passes(u32),
-    Fails(u32),
-    Refused(u32),
+// Whether a guard passes, with its label; or the number of its refusal.
+pub struct Verdict {
+    pub refusal: u32,
+    pub passes: bool,
+    pub label: u32,
 }
 
-// What an assignment writes, or the number of its refusal.
-pub enum Made {
-    Write {
-        slot: u64,
-        kind: u64,
-        payload: u64,
-        owner: u64,
-    },
-    Refused(u32),
+// What an assignment writes, with the slot's owner; or the number of its refusal.
+pub struct Made {
+    pub kind: u64,
+    pub refusal: u32,
+    pub payload: u64,
+    pub slot: u64,
+    pub owner: u64,
 }
 
-// What comes next: a command is entered, or one was left, or a step was forbidden.
-pub enum Move {
-    Enter {
-        at: usize,
-        depth: usize,
-        label: u32,
-        steps: u32,
-    },
-    Leave {
-        at: usize,
-        depth: usize,
-        steps: u32,
-    },
-    Stopped {
-        number: u32,
-        at: usize,
-        steps: u32,
-    },
+// What comes next: the command at `at` is entered under the label, or one was left there; or the step there was forbidden.
+pub struct Move {
+    pub refusal: u32,
+    pub entering: bool,
+    pub label: u32,
+    pub steps: u32,
+    pub at: usize,
+    pub depth: usize,
 }
 
 // How a block ended.
@@ -179,36 +171,6 @@ fn admitted(
     at_or_above(region, row[2])
 }
 
-// Reads through a view (13), and judges what stands there (15).
-fn fetch(
-    held: &[[u64; 3]; 256],
-    masks: &[u32; 32],
-    terms: Terms,
-    kind: u64,
-    payload: u64,
-    label: u32,
-) -> Evaluated
-    requires { ⌜ CanJudge terms (now masks) (now held) ⌝ }
-    ensures { λ r. ⌜ ((w : Setting) (s : Store) (x : Labelled) → Serves w terms (now (masks .entry)) → StoreHeld (w .tables) s (now (held .entry)) → ValueHeld (w .tables .order) x kind payload label → EvaluatedAs (w .tables .order) r (fetch w s x)) ⌝ }
-{
-    if kind != 2 {
-        return Evaluated::Refused(13);
-    }
-    let row = row_of(held, payload);
-    let k = row[0];
-    let p = row[1];
-    let owner = row[2] as usize;
-    if !admitted(held, masks, terms, k, p) {
-        return Evaluated::Refused(15);
-    }
-    let mask = masks[owner];
-    Evaluated::Value {
-        kind: k,
-        payload: p,
-        label: label & mask,
-    }
-}
-
 // Where the literal of the expression at `at` stands: after its bytes 11.
 fn literal_at(code: &[u8], at: usize) -> usize
     requires { ⌜ ExprIn (now code) at ⌝ }
@@ -221,32 +183,30 @@ fn literal_at(code: &[u8], at: usize) -> usize
     here
 }
 
-// The literal whose byte 10 stands at `at`.
-fn literal(
-    code: &[u8],
-    held: &[[u64; 3]; 256],
-    masks: &[u32; 32],
-    terms: Terms,
-    at: usize,
-) -> Evaluated
-    requires { ⌜ CanJudge terms (now masks) (now held) × (at < length (now code)) ⌝ }
-    ensures { λ r. ⌜ ((w : Setting) (s : Store) → Serves w terms (now (masks .entry)) → StoreHeld (w .tables) s (now (held .entry)) → EvaluatedAs (w .tables .order) r (eval w s (literal (valueAt (now (code .entry)) (at + 1))))) ⌝ }
+// The value of the literal whose byte 10 stands at `at`.
+fn literal(code: &[u8], at: usize) -> Value
+    requires { ⌜ at + 1 + valueWidth ≤ length (now code) ⌝ }
+    ensures { λ r. ⌜ r ≡ valueAt (now (code .entry)) (at + 1) ⌝ }
 {
-    let v = store::value_at(code, at + 1);
-    let kind = wide(v.kind);
-    let payload = v.payload;
-    if !admitted(held, masks, terms, kind, payload) {
-        return Evaluated::Refused(15);
-    }
-    let top = terms.top;
-    Evaluated::Value {
-        kind,
-        payload,
-        label: top,
+    let from = at + 1;
+    let to = from + Value::WIDTH;
+    store::value_at(&code[from..to], 0)
+}
+
+fn refused_value(number: u32) -> Evaluated
+    requires { ⌜ 0 < number ⌝ }
+    ensures { λ r. ⌜ got r ≡ Got.Refused number ⌝ }
+{
+    Evaluated {
+        kind: 0,
+        refusal: number,
+        label: 0,
+        payload: 0,
     }
 }
 
-// The expression at `at`, whose literal stands at `inner`: from its literal outwards.
+// The expression at `at`, whose literal stands at `inner`: from its literal outwards. What turns up is judged (15) before it is read
+// through (13).
 fn eval(
     code: &[u8],
     held: &[[u64; 3]; 256],
@@ -255,27 +215,48 @@ fn eval(
     at: usize,
     inner: usize,
 ) -> Evaluated
-    requires { ⌜ CanJudge terms (now masks) (now held) × (at ≤ inner) × (inner < length (now code)) ⌝ }
-    ensures { λ r. ⌜ ((w : Setting) (s : Store) (e : Expr) (end : ℕ) → Serves w terms (now (masks .entry)) → StoreHeld (w .tables) s (now (held .entry)) → ExprAt (now (code .entry)) e at end → inner ≡ at + readsOf e → EvaluatedAs (w .tables .order) r (eval w s e)) ⌝ }
+    requires { ⌜ CanJudge terms (now masks) (now held) × (at ≤ inner) × (inner + 1 + valueWidth ≤ length (now code)) ⌝ }
+    ensures { λ r. ⌜ ((w : Setting) (s : Store) (e : Expr) (end : ℕ) → Serves w terms (now (masks .entry)) → StoreHeld (w .tables) s (now (held .entry)) → ExprAt (now (code .entry)) e at end → inner ≡ at + readsOf e → EvaluatedAs (w .tables .order) (got r) (eval w s e)) ⌝ }
 {
-    let mut got = literal(code, held, masks, terms, inner);
+    let v = literal(code, inner);
+    let mut kind = wide(v.kind);
+    let mut payload = v.payload;
+    let mut label = terms.top;
     let mut left = inner - at;
-    while 0 < left {
-        match got {
-            Evaluated::Value {
-                kind,
-                payload,
-                label,
-            } => {
-                got = fetch(held, masks, terms, kind, payload, label);
-                left -= 1;
-            }
-            Evaluated::Refused(number) => {
-                return Evaluated::Refused(number);
-            }
+    loop {
+        if !admitted(held, masks, terms, kind, payload) {
+            return refused_value(15);
         }
+        if left == 0 {
+            return Evaluated {
+                kind,
+                refusal: 0,
+                label,
+                payload,
+            };
+        }
+        if kind != 2 {
+            return refused_value(13);
+        }
+        let row = row_of(held, payload);
+        let owner = row[2] as usize;
+        let mask = masks[owner];
+        kind = row[0];
+        payload = row[1];
+        label = label & mask;
+        left -= 1;
     }
-    got
+}
+
+fn refused_verdict(number: u32) -> Verdict
+    requires { ⌜ 0 < number ⌝ }
+    ensures { λ r. ⌜ ruling r ≡ Ruling.Refused number ⌝ }
+{
+    Verdict {
+        refusal: number,
+        passes: false,
+        label: 0,
+    }
 }
 
 // Judges the guard at `at`: 17 first, then the expression, then its kind.
@@ -288,29 +269,27 @@ fn judge(
     inner: usize,
     steps: u32,
 ) -> Verdict
-    requires { ⌜ CanJudge terms (now masks) (now held) × (at ≤ inner) × (inner < length (now code)) ⌝ }
-    ensures { λ r. ⌜ ((w : Setting) (s : Store) (g : Expr) (end : ℕ) → Serves w terms (now (masks .entry)) → StoreHeld (w .tables) s (now (held .entry)) → ExprAt (now (code .entry)) g at end → inner ≡ at + readsOf g → JudgedAs (w .tables .order) r (unspent w steps (judge w s g))) ⌝ }
+    requires { ⌜ CanJudge terms (now masks) (now held) × (at ≤ inner) × (inner + 1 + valueWidth ≤ length (now code)) ⌝ }
+    ensures { λ r. ⌜ ((w : Setting) (s : Store) (g : Expr) (end : ℕ) → Serves w terms (now (masks .entry)) → StoreHeld (w .tables) s (now (held .entry)) → ExprAt (now (code .entry)) g at end → inner ≡ at + readsOf g → JudgedAs (w .tables .order) (ruling r) (unspent w steps (judge w s g))) ⌝ }
 {
     let budget = terms.budget;
     if steps == budget {
-        return Verdict::Refused(17);
+        return refused_verdict(17);
     }
-    match eval(code, held, masks, terms, at, inner) {
-        Evaluated::Value {
-            kind,
-            payload,
-            label,
-        } => {
-            if kind != 1 {
-                return Verdict::Refused(13);
-            }
-            if payload == 1 {
-                Verdict::Passes(label)
-            } else {
-                Verdict::Fails(label)
-            }
-        }
-        Evaluated::Refused(number) => Verdict::Refused(number),
+    let x = eval(code, held, masks, terms, at, inner);
+    let number = x.refusal;
+    let kind = x.kind;
+    let payload = x.payload;
+    if number != 0 {
+        return refused_verdict(number);
+    }
+    if kind != 1 {
+        return refused_verdict(13);
+    }
+    Verdict {
+        refusal: 0,
+        passes: payload == 1,
+        label: x.label,
     }
 }
 
@@ -335,6 +314,19 @@ fn reliable(terms: Terms, owner: u64, target: u32, value: u32, branch: u32) -> b
     at_or_above(both, owner)
 }
 
+fn refused_write(number: u32) -> Made
+    requires { ⌜ 0 < number ⌝ }
+    ensures { λ r. ⌜ making r ≡ Making.Refused number ⌝ }
+{
+    Made {
+        kind: 0,
+        refusal: number,
+        payload: 0,
+        slot: 0,
+        owner: 0,
+    }
+}
+
 // Judges an assignment whose target names `slot`: the region (14), then the labels (16).
 fn permit(
     held: &[[u64; 3]; 256],
@@ -348,7 +340,7 @@ fn permit(
     branch: u32,
 ) -> Made
     requires { ⌜ CanJudge terms (now masks) (now held) ⌝ }
-    ensures { λ r. ⌜ ((w : Setting) (s : Store) (x y : Labelled) (b : Label) → Serves w terms (now (masks .entry)) → StoreHeld (w .tables) s (now (held .entry)) → x .value .payload ≡ slot → LabelHeld (w .tables .order) (x .label) target → ValueHeld (w .tables .order) y kind payload value → LabelHeld (w .tables .order) b branch → MadeAs (w .tables) r (permit w b x y)) ⌝ }
+    ensures { λ r. ⌜ ((w : Setting) (s : Store) (x y : Labelled) (b : Label) → Serves w terms (now (masks .entry)) → StoreHeld (w .tables) s (now (held .entry)) → x .value .payload ≡ slot → LabelHeld (w .tables .order) (x .label) target → ValueHeld (w .tables .order) y kind payload value → LabelHeld (w .tables .order) b branch → MadeAs (w .tables) (making r) (permit w b x y)) ⌝ }
 {
     let row = row_of(held, slot);
     let owner = row[2];
@@ -356,16 +348,17 @@ fn permit(
     if regions {
         let region = terms.region;
         if !at_or_above(region, owner) {
-            return Made::Refused(14);
+            return refused_write(14);
         }
     }
     if !reliable(terms, owner, target, value, branch) {
-        return Made::Refused(16);
+        return refused_write(16);
     }
-    Made::Write {
-        slot,
+    Made {
         kind,
+        refusal: 0,
         payload,
+        slot,
         owner,
     }
 }
@@ -381,35 +374,40 @@ fn assign(
     steps: u32,
 ) -> Made
     requires { ⌜ CanJudge terms (now masks) (now held) × TwoExprs (now code) at ⌝ }
-    ensures { λ r. ⌜ ((w : Setting) (s : Store) (x y : Expr) (mid end : ℕ) (b : Label) → Serves w terms (now (masks .entry)) → StoreHeld (w .tables) s (now (held .entry)) → ExprAt (now (code .entry)) x at mid → ExprAt (now (code .entry)) y mid end → LabelHeld (w .tables .order) b branch → MadeAs (w .tables) r (unspent w steps (assignment w b s x y))) ⌝ }
+    ensures { λ r. ⌜ ((w : Setting) (s : Store) (x y : Expr) (mid end : ℕ) (b : Label) → Serves w terms (now (masks .entry)) → StoreHeld (w .tables) s (now (held .entry)) → ExprAt (now (code .entry)) x at mid → ExprAt (now (code .entry)) y mid end → LabelHeld (w .tables .order) b branch → MadeAs (w .tables) (making r) (unspent w steps (assignment w b s x y))) ⌝ }
 {
     let budget = terms.budget;
     if steps == budget {
-        return Made::Refused(17);
+        return refused_write(17);
     }
     let inner = literal_at(code, at);
-    match eval(code, held, masks, terms, at, inner) {
-        Evaluated::Value {
-            kind,
-            payload,
-            label,
-        } => {
-            if kind != 3 {
-                return Made::Refused(13);
-            }
-            let next = inner + 1 + Value::WIDTH;
-            let last = literal_at(code, next);
-            match eval(code, held, masks, terms, next, last) {
-                Evaluated::Value {
-                    kind: k,
-                    payload: p,
-                    label: l,
-                } => { permit(held, masks, terms, payload, label, k, p, l, branch) }
-                Evaluated::Refused(number) => Made::Refused(number),
-            }
-        }
-        Evaluated::Refused(number) => Made::Refused(number),
+    let x = eval(code, held, masks, terms, at, inner);
+    let number = x.refusal;
+    let kind = x.kind;
+    if number != 0 {
+        return refused_write(number);
     }
+    if kind != 3 {
+        return refused_write(13);
+    }
+    let next = inner + 1 + Value::WIDTH;
+    let last = literal_at(code, next);
+    let y = eval(code, held, masks, terms, next, last);
+    let barred = y.refusal;
+    if barred != 0 {
+        return refused_write(barred);
+    }
+    permit(
+        held,
+        masks,
+        terms,
+        x.payload,
+        x.label,
+        y.kind,
+        y.payload,
+        y.label,
+        branch,
+    )
 }
 
 fn wide32(x: u8) -> u32
@@ -434,6 +432,46 @@ fn put(held: &mut [[u64; 3]; 256], slot: u64, kind: u64, payload: u64, owner: u6
     }
 }
 
+fn entered_at(at: usize, depth: usize, label: u32, steps: u32) -> Move
+    ensures { λ r. ⌜ control r ≡ Control.Enter at depth label steps ⌝ }
+{
+    Move {
+        refusal: 0,
+        entering: true,
+        label,
+        steps,
+        at,
+        depth,
+    }
+}
+
+fn left_at(at: usize, depth: usize, steps: u32) -> Move
+    ensures { λ r. ⌜ control r ≡ Control.Leave at depth steps ⌝ }
+{
+    Move {
+        refusal: 0,
+        entering: false,
+        label: 0,
+        steps,
+        at,
+        depth,
+    }
+}
+
+fn stopped_at(number: u32, at: usize, steps: u32) -> Move
+    requires { ⌜ 0 < number ⌝ }
+    ensures { λ r. ⌜ control r ≡ Control.Stopped number at steps ⌝ }
+{
+    Move {
+        refusal: number,
+        entering: false,
+        label: 0,
+        steps,
+        at,
+        depth: 0,
+    }
+}
+
 // An assignment: a step, and the command is left.
 fn enter_assign(
     code: &[u8],
@@ -448,43 +486,30 @@ fn enter_assign(
     steps: u32,
 ) -> Move
     requires { ⌜ CanEnter terms (now masks) (now code) (now ends) (now frames) (now held) at depth label steps × (getD (now code) at 0 ≡ 0x21) ⌝ }
-    ensures { λ r. ⌜ Entered terms (now (masks .entry)) (now (code .entry)) (now (ends .entry)) (now (frames .entry)) (now (frames .entry)) (now (held .entry)) (now (held .exit)) at depth label steps r ⌝ }
+    ensures { λ r. ⌜ Entered terms (now (masks .entry)) (now (code .entry)) (now (ends .entry)) (now (frames .entry)) (now (frames .entry)) (now (held .entry)) (now (held .exit)) at depth label steps (control r) ⌝ }
 {
-    match assign(code, held, masks, terms, at + 1, label, steps) {
-        Made::Write {
-            slot,
-            kind,
-            payload,
-            owner,
-        } => {
-            put(held, slot, kind, payload, owner);
-            let end = wide16(ends[at]);
-            Move::Leave {
-                at: end,
-                depth,
-                steps: steps + 1,
-            }
-        }
-        Made::Refused(number) => Move::Stopped { number, at, steps },
+    let x = assign(code, held, masks, terms, at + 1, label, steps);
+    let forbidden = x.refusal;
+    if forbidden != 0 {
+        return stopped_at(forbidden, at, steps);
     }
+    put(held, x.slot, x.kind, x.payload, x.owner);
+    let end = wide16(ends[at]);
+    left_at(end, depth, steps + 1)
 }
 
 // A sequence: its first child is entered, under the same label.
 fn enter_seq(frames: &mut [[u32; 3]; 32], at: usize, depth: usize, label: u32, steps: u32) -> Move
     requires { ⌜ (at < 16384) × (depth < 32) ⌝ }
-    ensures { λ r. ⌜ (r ≡ Enter (at + 2) (depth + 1) label steps) × (now (frames .exit) ≡ set (now (frames .entry)) depth (at ∷ 0 ∷ label ∷ [])) ⌝ }
+    ensures { λ r. ⌜ (control r ≡ Control.Enter (at + 2) (depth + 1) label steps) × (now (frames .exit) ≡ set (now (frames .entry)) depth (at ∷ 0 ∷ label ∷ [])) ⌝ }
 {
     frames[depth] = [at as u32, 0, label];
-    Move::Enter {
-        at: at + 2,
-        depth: depth + 1,
-        label,
-        steps,
-    }
+    entered_at(at + 2, depth + 1, label, steps)
 }
 
-// An if: its guard is judged, and one part is entered; the other is skipped at once by the side table.
-fn enter_if(
+// An if or a while: its guard is judged. If it passes, the part after it is entered; if not, a while is left, and an if's other part is
+// entered, the first being skipped at once by the side table.
+fn enter_guarded(
     code: &[u8],
     ends: &[u16; 16384],
     held: &[[u64; 3]; 256],
@@ -496,79 +521,30 @@ fn enter_if(
     label: u32,
     steps: u32,
 ) -> Move
-    requires { ⌜ CanEnter terms (now masks) (now code) (now ends) (now frames) (now held) at depth label steps × (getD (now code) at 0 ≡ 0x23) ⌝ }
-    ensures { λ r. ⌜ Entered terms (now (masks .entry)) (now (code .entry)) (now (ends .entry)) (now (frames .entry)) (now (frames .exit)) (now (held .entry)) (now (held .entry)) at depth label steps r ⌝ }
+    requires { ⌜ CanEnter terms (now masks) (now code) (now ends) (now frames) (now held) at depth label steps × ((getD (now code) at 0 ≡ 0x23) ⊎ (getD (now code) at 0 ≡ 0x24)) ⌝ }
+    ensures { λ r. ⌜ Entered terms (now (masks .entry)) (now (code .entry)) (now (ends .entry)) (now (frames .entry)) (now (frames .exit)) (now (held .entry)) (now (held .entry)) at depth label steps (control r) ⌝ }
 {
     let guard = at + 1;
     let inner = literal_at(code, guard);
-    match judge(code, held, masks, terms, guard, inner, steps) {
-        Verdict::Passes(l) => {
-            let part = inner + 1 + Value::WIDTH;
-            let inside = label & l;
-            frames[depth] = [at as u32, 0, inside];
-            Move::Enter {
-                at: part,
-                depth: depth + 1,
-                label: inside,
-                steps: steps + 1,
-            }
-        }
-        Verdict::Fails(l) => {
-            let part = inner + 1 + Value::WIDTH;
-            let other = wide16(ends[part]);
-            let inside = label & l;
-            frames[depth] = [at as u32, 1, inside];
-            Move::Enter {
-                at: other,
-                depth: depth + 1,
-                label: inside,
-                steps: steps + 1,
-            }
-        }
-        Verdict::Refused(number) => Move::Stopped { number, at, steps },
+    let x = judge(code, held, masks, terms, guard, inner, steps);
+    let number = x.refusal;
+    if number != 0 {
+        return stopped_at(number, at, steps);
     }
-}
-
-// A while: its guard is judged, and its body entered, or the command is left.
-fn enter_while(
-    code: &[u8],
-    ends: &[u16; 16384],
-    held: &[[u64; 3]; 256],
-    masks: &[u32; 32],
-    frames: &mut [[u32; 3]; 32],
-    terms: Terms,
-    at: usize,
-    depth: usize,
-    label: u32,
-    steps: u32,
-) -> Move
-    requires { ⌜ CanEnter terms (now masks) (now code) (now ends) (now frames) (now held) at depth label steps × (getD (now code) at 0 ≡ 0x24) ⌝ }
-    ensures { λ r. ⌜ Entered terms (now (masks .entry)) (now (code .entry)) (now (ends .entry)) (now (frames .entry)) (now (frames .exit)) (now (held .entry)) (now (held .entry)) at depth label steps r ⌝ }
-{
-    let guard = at + 1;
-    let inner = literal_at(code, guard);
-    match judge(code, held, masks, terms, guard, inner, steps) {
-        Verdict::Passes(l) => {
-            let part = inner + 1 + Value::WIDTH;
-            let inside = label & l;
-            frames[depth] = [at as u32, 0, inside];
-            Move::Enter {
-                at: part,
-                depth: depth + 1,
-                label: inside,
-                steps: steps + 1,
-            }
-        }
-        Verdict::Fails(_) => {
-            let end = wide16(ends[at]);
-            Move::Leave {
-                at: end,
-                depth,
-                steps: steps + 1,
-            }
-        }
-        Verdict::Refused(number) => Move::Stopped { number, at, steps },
+    let part = inner + 1 + Value::WIDTH;
+    let inside = label & x.label;
+    let passes = x.passes;
+    if passes {
+        frames[depth] = [at as u32, 0, inside];
+        return entered_at(part, depth + 1, inside, steps + 1);
     }
+    if code[at] == 0x24 {
+        let end = wide16(ends[at]);
+        return left_at(end, depth, steps + 1);
+    }
+    let other = wide16(ends[part]);
+    frames[depth] = [at as u32, 1, inside];
+    entered_at(other, depth + 1, inside, steps + 1)
 }
 
 // Enters the command at `at`, by its first byte.
@@ -585,15 +561,11 @@ fn enter(
     steps: u32,
 ) -> Move
     requires { ⌜ CanEnter terms (now masks) (now code) (now ends) (now frames) (now held) at depth label steps ⌝ }
-    ensures { λ r. ⌜ Entered terms (now (masks .entry)) (now (code .entry)) (now (ends .entry)) (now (frames .entry)) (now (frames .exit)) (now (held .entry)) (now (held .exit)) at depth label steps r ⌝ }
+    ensures { λ r. ⌜ Entered terms (now (masks .entry)) (now (code .entry)) (now (ends .entry)) (now (frames .entry)) (now (frames .exit)) (now (held .entry)) (now (held .exit)) at depth label steps (control r) ⌝ }
 {
     let op = code[at];
     match op {
-        0x20 => Move::Leave {
-            at: at + 1,
-            depth,
-            steps,
-        },
+        0x20 => left_at(at + 1, depth, steps),
         0x21 => enter_assign(
             code,
             ends,
@@ -607,19 +579,7 @@ fn enter(
             steps,
         ),
         0x22 => enter_seq(frames, at, depth, label, steps),
-        0x23 => enter_if(
-            code,
-            ends,
-            held,
-            masks,
-            frames,
-            terms,
-            at,
-            depth,
-            label,
-            steps,
-        ),
-        _ => enter_while(
+        _ => enter_guarded(
             code,
             ends,
             held,
@@ -658,7 +618,7 @@ fn leave(
     steps: u32,
 ) -> Move
     requires { ⌜ CanGoOn terms (now code) (now ends) (now frames) at depth steps ⌝ }
-    ensures { λ r. ⌜ ((masks : List ℕ) (rows : List (List ℕ)) → Left terms masks (now (code .entry)) (now (ends .entry)) (now (frames .entry)) (now (frames .exit)) rows at depth steps r) ⌝ }
+    ensures { λ r. ⌜ ((masks : List ℕ) (rows : List (List ℕ)) → Left terms masks (now (code .entry)) (now (ends .entry)) (now (frames .entry)) (now (frames .exit)) rows at depth steps (control r)) ⌝ }
 {
     let d = depth - 1;
     let row = frames[d];
@@ -670,37 +630,19 @@ fn leave(
         0x22 => {
             let count = wide32(code[p + 1]);
             if child + 1 == count {
-                return Move::Leave {
-                    at,
-                    depth: d,
-                    steps,
-                };
+                return left_at(at, d, steps);
             }
             frames[d] = [row[0], child + 1, inside];
-            Move::Enter {
-                at,
-                depth,
-                label: inside,
-                steps,
-            }
+            entered_at(at, depth, inside, steps)
         }
         0x23 => {
             let end = wide16(ends[p]);
-            Move::Leave {
-                at: end,
-                depth: d,
-                steps,
-            }
+            left_at(end, d, steps)
         }
         _ => {
             let top = terms.top;
             let outer = label_in(frames, top, d);
-            Move::Enter {
-                at: p,
-                depth: d,
-                label: outer,
-                steps,
-            }
+            entered_at(p, d, outer, steps)
         }
     }
 }
@@ -718,55 +660,39 @@ fn run_block(
     ensures { λ r. ⌜ ((w : Setting) (s : State) (c : Cmd) → Serves w terms (now (masks .entry)) → StateHeld w (now (held .entry)) steps s → CmdAt (now (code .entry)) (now (ends .entry)) c 0 (length (now (code .entry))) 0 → RanAs w (now (held .exit)) r (exec w c (top (w .tables .order)) s)) ⌝ }
 {
     let mut frames: [[u32; 3]; 32] = [[0, 0, 0]; 32];
-    let top = terms.top;
-    let mut next = Move::Enter {
-        at: 0,
-        depth: 0,
-        label: top,
-        steps,
-    };
+    let mut next = entered_at(0, 0, terms.top, steps);
     loop {
-        match next {
-            Move::Enter {
-                at,
-                depth,
-                label,
-                steps: done,
-            } => {
-                next = enter(
-                    code,
-                    ends,
-                    held,
-                    masks,
-                    &mut frames,
-                    terms,
-                    at,
-                    depth,
-                    label,
-                    done,
-                );
-            }
-            Move::Leave {
-                at,
-                depth,
-                steps: done,
-            } => {
-                if depth == 0 {
-                    return Ran::Done(done);
-                }
-                next = leave(code, ends, &mut frames, terms, at, depth, done);
-            }
-            Move::Stopped {
+        let number = next.refusal;
+        let at = next.at;
+        let depth = next.depth;
+        let done = next.steps;
+        let go = next.entering;
+        if number != 0 {
+            return Ran::Stopped {
                 number,
                 at,
                 steps: done,
-            } => {
-                return Ran::Stopped {
-                    number,
-                    at,
-                    steps: done,
-                };
+            };
+        }
+        if go {
+            let label = next.label;
+            next = enter(
+                code,
+                ends,
+                held,
+                masks,
+                &mut frames,
+                terms,
+                at,
+                depth,
+                label,
+                done,
+            );
+        } else {
+            if depth == 0 {
+                return Ran::Done(done);
             }
+            next = leave(code, ends, &mut frames, terms, at, depth, done);
         }
     }
 }

@@ -8,14 +8,20 @@ use Rattle.store.specs.Value.{valueWidth}
 use Rattle.programme.specs.Syntax.{Expr}
 use Rattle.calculus.specs.Calculus.{Setting, Store, assignment, eval}
 use Rattle.runner.specs.Layout.{ExprAt, ExprIn}
+use Rattle.runner.specs.Answers.{got}
 use Rattle.runner.specs.Held.{Serves, StoreHeld, EvaluatedAs, MadeAs}
 use Rattle.runner.proofs.Scan.{literal-in}
+use Rattle.runner.proofs.Answered.{got-value, got-refused}
 use Rattle.runner.proofs.Judging.{spent, unspent-is, assign-refused, assign-kind, assign-value-refused, assign-judged}
 use Rattle.runner.proofs.assign.Statement.{statement}
 use Rattle.runner.proofs.assign.Tie as tie
 
+refused-write-requires : tie.Need-refused-write-requires
+refused-write-requires c κs = search needs
+
 returns : tie.Need-returns
-returns c w s x y mid end b v h p q l = rw (spent w _ _ v _ (assignment w b s x y) (c .if1 .taken)) MadeAs.refuses
+returns c w s x y mid end b v h p q l =
+    rw (c .refused-write .ensures, spent w _ _ v _ (assignment w b s x y) (c .before .if1 .taken)) MadeAs.refuses
 
 literal-at-requires : tie.Need-literal-at-requires
 literal-at-requires c κs = search needs
@@ -30,35 +36,44 @@ first-in c =
     let f = entry c .pre .1 .first in literal-in _ _ _ f (c .literal-at .ensures (f .expr) (f .end) (f .stands))
 
 eval-requires : tie.Need-eval-requires
-eval-requires c κs = (entry c .pre .0, first-in c .0, omega (arith, first-in c .1))
+eval-requires c κs = (entry c .pre .0, first-in c .0, first-in c .1)
 
 target : (c : tie.After-eval) (w : Setting) (s : Store) (x : Expr) (mid : ℕ)
     → Serves w (entry (c .before) .args .terms) (now (entry (c .before) .args .masks))
     → StoreHeld (w .tables) s (now (entry (c .before) .args .held))
     → ExprAt (now (entry (c .before) .args .code)) x (entry (c .before) .args .at) mid
-    → EvaluatedAs (w .tables .order) (c .eval .result) (eval w s x)
+    → EvaluatedAs (w .tables .order) (got (c .eval .result)) (eval w s x)
 target c w s x mid v h p = c .eval .ensures w s x mid v h p (c .before .literal-at .ensures x mid p .0)
 
-enum-known-kind : tie.Need-enum-known-kind
-enum-known-kind c = search needs
+refused-write-requires-2 : tie.Need-refused-write-requires-2
+refused-write-requires-2 c κs = omega (arith, c .if2 .taken)
 
 returns-2 : tie.Need-returns-2
 returns-2 c w s x y mid end b v h p q l =
-    let a = c .before .before .before .before in
-    rw (unspent-is w _ _ v _ (assignment w b s x y) (a .before .before .if1 .left))
-    (assign-kind w s b x y (rw (c .before .before .kind .given .1) at (target a w s x mid v h p)) (c .if2 .taken))
+    let a = c .before .before in
+    rw (c .refused-write2 .ensures, unspent-is w _ _ v _ (assignment w b s x y) (a .before .before .if1 .left))
+    (assign-refused w s b x y (rw (got-refused (a .eval .result) (c .before .if2 .taken)) at (target a w s x mid v h p)))
+
+refused-write-requires-3 : tie.Need-refused-write-requires-3
+refused-write-requires-3 c κs = search needs
+
+returns-3 : tie.Need-returns-3
+returns-3 c w s x y mid end b v h p q l =
+    let a = c .before .before .before in
+    rw (c .refused-write3 .ensures, unspent-is w _ _ v _ (assignment w b s x y) (a .before .before .if1 .left))
+    (assign-kind w s b x y (rw (got-value (a .eval .result) (c .before .before .if2 .left)) at (target a w s x mid v h p)) (c .before .if3 .taken))
 
 add-next : tie.Need-add-next
-add-next c = let a = c .before .before .before .before .before in omega (arith, first-in a .1, entry a .good)
+add-next c = let a = c .before .before .before in omega (arith, first-in a .1, entry a .good)
 
 add-next-2 : tie.Need-add-next-2
-add-next-2 c = let a = c .before .before .before .before .before in omega (arith, first-in a .1, entry a .good)
+add-next-2 c = let a = c .before .before .before in omega (arith, first-in a .1, entry a .good)
 
 -- the value stands after it, and what it was evaluated to
-second-in : (c : tie.Else2)
-    → ExprIn (now (entry (c .before .before .before .before .before) .args .code)) (c .before .before .before .before .before .literal-at .result + 1 + valueWidth)
+second-in : (c : tie.Else3)
+    → ExprIn (now (entry (c .before .before .before) .args .code)) (c .before .before .before .literal-at .result + 1 + valueWidth)
 second-in c =
-    let a = c .before .before .before .before .before in
+    let a = c .before .before .before in
     let f = entry a .pre .1 in
     rw (a .literal-at .ensures (f .first .expr) (f .first .end) (f .first .stands) .1) (f .second)
 
@@ -69,70 +84,60 @@ eval-requires-2 : tie.Need-eval-requires-2
 eval-requires-2 c κs =
     let f = second-in (c .before) in
     let k = literal-in _ _ _ f (c .literal-at2 .ensures (f .expr) (f .end) (f .stands)) in
-    (entry (c .before .before .before .before .before .before) .pre .0, k .0, omega (arith, k .1))
+    (entry (c .before .before .before .before) .pre .0, k .0, k .1)
 
 abbrev first : tie.After-eval2 → tie.Start
-first c = entry (c .before .before .before .before .before .before .before)
+first c = entry (c .before .before .before .before .before)
 
 value : (c : tie.After-eval2) (w : Setting) (s : Store) (x y : Expr) (mid end : ℕ) → Serves w (first c .args .terms) (now (first c .args .masks))
     → StoreHeld (w .tables) s (now (first c .args .held)) → ExprAt (now (first c .args .code)) x (first c .args .at) mid
-    → ExprAt (now (first c .args .code)) y mid end → EvaluatedAs (w .tables .order) (c .eval2 .result) (eval w s y)
+    → ExprAt (now (first c .args .code)) y mid end → EvaluatedAs (w .tables .order) (got (c .eval2 .result)) (eval w s y)
 value c w s x y mid end v h p q =
-    let z = rw (sym (c .before .before .before .before .before .before .before .literal-at .ensures x mid p .1)) at q in
+    let z = rw (sym (c .before .before .before .before .before .literal-at .ensures x mid p .1)) at q in
     c .eval2 .ensures w s y end v h z (c .before .literal-at2 .ensures y end z .0)
 
-enum-known-k : tie.Need-enum-known-k
-enum-known-k c = search needs
+refused-write-requires-4 : tie.Need-refused-write-requires-4
+refused-write-requires-4 c κs = omega (arith, c .if4 .taken)
+
+returns-4 : tie.Need-returns-4
+returns-4 c w s x y mid end b v h p q l =
+    let u = c .before .before in
+    let d = u .before .before in
+    let a = d .before .before in
+    rw (c .refused-write4 .ensures, unspent-is w _ _ v _ (assignment w b s x y) (a .before .before .if1 .left))
+    (assign-value-refused w s b x y (rw (got-value (a .eval .result) (d .before .if2 .left)) at (target a w s x mid v h p)) (d .if3 .left)
+    (rw (got-refused (u .eval2 .result) (c .before .if4 .taken)) at (value u w s x y mid end v h p q)))
 
 permit-requires : tie.Need-permit-requires
 permit-requires c κs = search needs
 
-enum-known-number : tie.Need-enum-known-number
-enum-known-number c = search needs
-
-enum-known-number-2 : tie.Need-enum-known-number-2
-enum-known-number-2 c = search needs
-
-returns-3 : tie.Need-returns-3
-returns-3 c w s x y mid end b v h p q l =
-    let u = c .before .before .before .before in
-    let a = u .before .before .before .before .before .before in
-    rw (unspent-is w _ _ v _ (assignment w b s x y) (a .before .before .if1 .left))
-    (assign-judged w s b x y (rw (u .before .before .before .before .kind .given .1) at (target a w s x mid v h p)) _ (u .before .before .if2 .left)
-    (rw (c .before .before .k .given .1) at (value u w s x y mid end v h p q))
-    (λ t r i j k. c .permit .ensures w s t r b v h i j k l))
-
-returns-4 : tie.Need-returns-4
-returns-4 c w s x y mid end b v h p q l =
-    let u = c .before .before .before in
-    let a = u .before .before .before .before .before .before in
-    rw (unspent-is w _ _ v _ (assignment w b s x y) (a .before .before .if1 .left))
-    (assign-value-refused w s b x y (rw (u .before .before .before .before .kind .given .1) at (target a w s x mid v h p)) (u .before .before .if2 .left)
-    (rw (c .before .number .given .1) at (value u w s x y mid end v h p q)))
-
 returns-5 : tie.Need-returns-5
 returns-5 c w s x y mid end b v h p q l =
-    let a = c .before .before .before in
+    let u = c .before .before in
+    let d = u .before .before in
+    let a = d .before .before in
     rw (unspent-is w _ _ v _ (assignment w b s x y) (a .before .before .if1 .left))
-    (assign-refused w s b x y (rw (c .before .number2 .given .1) at (target a w s x mid v h p)))
+    (assign-judged w s b x y (rw (got-value (a .eval .result) (d .before .if2 .left)) at (target a w s x mid v h p)) _ (d .if3 .left)
+    (rw (got-value (u .eval2 .result) (c .before .if4 .left)) at (value u w s x y mid end v h p q))
+    (λ t r i j k. c .permit .ensures w s t r b v h i j k l))
 
 pub assign-spec : {M : Type 1} → statement M
 assign-spec =
     tie.close
     (tie.spec
+    refused-write-requires
     returns
     literal-at-requires
     eval-requires
-    enum-known-kind
+    refused-write-requires-2
     returns-2
+    refused-write-requires-3
+    returns-3
     add-next
     add-next-2
     literal-at-requires-2
     eval-requires-2
-    enum-known-k
-    permit-requires
-    enum-known-number
-    enum-known-number-2
-    returns-3
+    refused-write-requires-4
     returns-4
+    permit-requires
     returns-5)

@@ -1,6 +1,7 @@
--- `machine::enter_assign` meets its contract: what the assignment answers, and where it ends. Assumes nothing.
+-- What the assignment answers, and where it ends. Assumes nothing.
 use borrow.Author.Needs.{needs}
 use native.Mathlib.Omega.{arith}
+use Rattle.runner.proofs.Answered.{making-write, making-refused}
 use Rattle.runner.proofs.Moving.{sizes, can-judge, assign-two, assign-writes, assign-refused}
 use Rattle.runner.proofs.enter_assign.Statement.{statement}
 use Rattle.runner.proofs.enter_assign.Tie as tie
@@ -11,40 +12,40 @@ add-assign c = omega (arith, sizes (c .before .before .pre .0))
 assign-requires : tie.Need-assign-requires
 assign-requires c κs = let p = c .before .before .pre in (can-judge (p .0), assign-two (p .0) (p .1))
 
-enum-known-slot : tie.Need-enum-known-slot
-enum-known-slot c = search needs
+stopped-at-requires : tie.Need-stopped-at-requires
+stopped-at-requires c κs = omega (arith, c .if1 .taken)
+
+returns : tie.Need-returns
+returns c =
+    let b = c .before .before in
+    let p = b .before .before .before .pre in
+    rw (c .stopped-at .ensures) (assign-refused (p .0) (p .1) (rw (making-refused (b .assign .result) (c .before .if1 .taken)) at (b .assign .ensures)))
 
 put-requires : tie.Need-put-requires
 put-requires c κs = search needs
 
 mul-wide16 : tie.Need-mul-wide16
-mul-wide16 c = omega (arith, sizes (c .before .before .before .before .before .before .before .before .pre .0))
+mul-wide16 c = omega (arith, sizes (c .before .before .before .before .before .before .pre .0))
 
 element-copy-out-wide16 : tie.Need-element-copy-out-wide16
-element-copy-out-wide16 c = omega (arith, sizes (c .before .before .before .before .before .before .before .before .pre .0))
+element-copy-out-wide16 c = omega (arith, sizes (c .before .before .before .before .before .before .pre .0))
 
 wide16-requires : tie.Need-wide16-requires
 wide16-requires c κs = search needs
 
-add-t27 : tie.Need-add-t27
-add-t27 c = search needs
+add-left-at : tie.Need-add-left-at
+add-left-at c = search needs
 
-enum-known-number : tie.Need-enum-known-number
-enum-known-number c = search needs
-
-returns : tie.Need-returns
-returns c =
-    let b = c .before .before in
-    let d = b .before .before .before in
-    let p = d .before .before .before .before .before .pre in
-    rw (c .wide16 .ensures)
-    (assign-writes (p .0) (p .1) (rw (d .slot .given .1) at (d .before .before .assign .ensures)) (b .put .ensures))
+left-at-requires : tie.Need-left-at-requires
+left-at-requires c κs = search needs
 
 returns-2 : tie.Need-returns-2
 returns-2 c =
     let b = c .before .before .before in
-    let p = b .before .before .before .pre in
-    assign-refused (p .0) (p .1) (rw (c .before .number .given .1) at (b .assign .ensures))
+    let a = b .before .before .before in
+    let p = a .before .before .before .pre in
+    rw (c .left-at .ensures, c .before .wide16 .ensures)
+    (assign-writes (p .0) (p .1) (rw (making-write (a .assign .result) (b .before .before .if1 .left)) at (a .assign .ensures)) (b .put .ensures))
 
 pub enter-assign-spec : {M : Type 1} → statement M
 enter-assign-spec =
@@ -52,12 +53,12 @@ enter-assign-spec =
     (tie.spec
     add-assign
     assign-requires
-    enum-known-slot
+    stopped-at-requires
+    returns
     put-requires
     mul-wide16
     element-copy-out-wide16
     wide16-requires
-    add-t27
-    enum-known-number
-    returns
+    add-left-at
+    left-at-requires
     returns-2)

@@ -2,36 +2,83 @@ use borrow.Author.Needs.{needs}
 use Prim.Native.Nat.{ℕ, _+_}
 use mathlib.Core.Path.{_≡_, refl}
 use native.Mathlib.Omega.{arith}
+use borrow.Author.Tests.{not-true, not-false}
 use Rattle.programme.specs.Syntax.{Expr}
 use Rattle.calculus.specs.Calculus.{Setting, Store, eval}
 use Rattle.runner.specs.Layout.{readsOf, ExprAt}
+use Rattle.runner.specs.Answers.{gotBy}
 use Rattle.runner.specs.Held.{Serves, StoreHeld}
-use Rattle.runner.proofs.Chain.{Pending, pending-all, pending-read, pending-refused, pending-none}
+use Rattle.runner.proofs.Admission.{owner-in}
+use Rattle.runner.proofs.Chain.{Ready, ready-all, ready-barred, ready-done, ready-kind, ready-next}
 use Rattle.runner.proofs.eval.Statement.{statement}
 use Rattle.runner.proofs.eval.Tie as tie
 
 abbrev Inv-loop : tie.InvT-loop
-Inv-loop code held masks terms at inner got₀ left₀ got left =
+Inv-loop code held masks terms at inner kind₀ payload₀ label₀ left₀ kind payload label left =
     (w : Setting) (s : Store) (e : Expr) (end : ℕ) → Serves w terms masks → StoreHeld (w .tables) s held → ExprAt code e at end
-    → inner ≡ at + readsOf e → Pending w s got left (eval w s e)
+    → inner ≡ at + readsOf e → Ready w s kind payload label left (eval w s e)
 
 abbrev μ-loop : tie.MeasureT-loop
-μ-loop code held masks terms at inner got₀ left₀ got left = left
+μ-loop code held masks terms at inner kind₀ payload₀ label₀ left₀ kind payload label left = left
 
 literal-requires : tie.Need-literal-requires Inv-loop μ-loop
 literal-requires c κs = search needs
+
+wide-requires : tie.Need-wide-requires Inv-loop μ-loop
+wide-requires c κs = search needs
 
 sub-left : tie.Need-sub-left Inv-loop μ-loop
 sub-left c = search needs
 
 loop-holds : tie.Need-loop-holds Inv-loop μ-loop
-loop-holds c w s e end v h x q = pending-all w s _ e _ _ end _ x q refl (c .literal .ensures w s v h)
+loop-holds c w s e end v h x q = ready-all w s _ e _ _ end _ _ _ _ _ x q refl (c .before .literal .ensures) (c .wide .ensures) refl (v .top)
 
-enum-known-got : tie.Need-enum-known-got Inv-loop μ-loop
-enum-known-got c = search needs
+admitted-requires : tie.Need-admitted-requires Inv-loop μ-loop
+admitted-requires c κs = search needs
 
-fetch-requires : tie.Need-fetch-requires Inv-loop μ-loop
-fetch-requires c κs = search needs
+refused-value-requires : tie.Need-refused-value-requires Inv-loop μ-loop
+refused-value-requires c κs = search needs
+
+returns : tie.Need-returns Inv-loop μ-loop
+returns c w s e end v h x q =
+    let b = c .before .before in
+    rw (c .refused-value .ensures)
+    (ready-barred w s (b .before .loop .inv w s e end v h x q) _ (b .admitted .ensures w s v h) (not-true _ (c .before .if1 .taken)))
+
+returns-2 : tie.Need-returns-2 Inv-loop μ-loop
+unfolding gotBy
+returns-2 c w s e end v h x q =
+    let b = c .before .before in
+    ready-done w s (b .before .loop .inv w s e end v h x q) _ (b .admitted .ensures w s v h) (not-false _ (c .before .if1 .left)) (c .if2 .taken)
+
+refused-value-requires-2 : tie.Need-refused-value-requires-2 Inv-loop μ-loop
+refused-value-requires-2 c κs = search needs
+
+returns-3 : tie.Need-returns-3 Inv-loop μ-loop
+returns-3 c w s e end v h x q =
+    let a = c .before .before .before in
+    let b = a .before in
+    rw (c .refused-value2 .ensures)
+    (ready-kind w s (b .before .loop .inv w s e end v h x q) _ (b .admitted .ensures w s v h) (not-false _ (a .if1 .left)) (c .before .before .if2 .left)
+    (c .before .if3 .taken))
+
+row-of-requires : tie.Need-row-of-requires Inv-loop μ-loop
+row-of-requires c κs = search needs
+
+array-read-owner : tie.Need-array-read-owner Inv-loop μ-loop
+array-read-owner c = search needs
+
+mul-mask : tie.Need-mul-mask Inv-loop μ-loop
+mul-mask c = omega (arith, owner-in _ _ _ _ _ (c .before .before .before .before .before .before .before .before .before .pre .0) (c .row-of .ensures))
+
+element-copy-out-mask : tie.Need-element-copy-out-mask Inv-loop μ-loop
+element-copy-out-mask c = owner-in _ _ _ _ _ (c .before .before .before .before .before .before .before .before .before .pre .0) (c .row-of .ensures)
+
+array-read-kind : tie.Need-array-read-kind Inv-loop μ-loop
+array-read-kind c = search needs
+
+array-read-payload : tie.Need-array-read-payload Inv-loop μ-loop
+array-read-payload c = search needs
 
 sub-left-2 : tie.Need-sub-left-2 Inv-loop μ-loop
 sub-left-2 c = omega arith
@@ -41,19 +88,11 @@ loop-less c = omega arith
 
 loop-again : tie.Need-loop-again Inv-loop μ-loop
 loop-again c w s e end v h x q =
-    let a = c .before .before .before .before .before in
-    pending-read w s _ (rw (c .before .before .got .given .1) at (a .loop .inv w s e end v h x q)) (c .before .before .before .before .loop-test .taken)
-    (λ y k. c .fetch .ensures w s y v h k)
-
-enum-known-got-2 : tie.Need-enum-known-got-2 Inv-loop μ-loop
-enum-known-got-2 c = search needs
-
-returns : tie.Need-returns Inv-loop μ-loop
-returns c w s e end v h x q =
-    pending-refused w s (rw (c .before .got2 .given .1) at (c .before .before .before .before .loop .inv w s e end v h x q))
-
-returns-2 : tie.Need-returns-2 Inv-loop μ-loop
-returns-2 c w s e end v h x q = pending-none w s (c .before .loop .inv w s e end v h x q) (omega arith)
+    let d = c .before .before in
+    let a = d .before .before in
+    let b = a .before in
+    ready-next w s (b .before .loop .inv w s e end v h x q) _ (b .admitted .ensures w s v h) v _ (not-false _ (a .if1 .left))
+    (d .before .if2 .left) (d .if3 .left) (c .before .row-of .ensures (w .tables) s (v .grounds) h)
 
 pub eval-spec : {M : Type 1} → statement M
 eval-spec =
@@ -62,13 +101,21 @@ eval-spec =
     Inv-loop
     μ-loop
     literal-requires
+    wide-requires
     sub-left
     loop-holds
-    enum-known-got
-    fetch-requires
+    admitted-requires
+    refused-value-requires
+    returns
+    returns-2
+    refused-value-requires-2
+    returns-3
+    row-of-requires
+    array-read-owner
+    mul-mask
+    element-copy-out-mask
+    array-read-kind
+    array-read-payload
     sub-left-2
     loop-less
-    loop-again
-    enum-known-got-2
-    returns
-    returns-2)
+    loop-again)

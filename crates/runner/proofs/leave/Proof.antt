@@ -44,10 +44,15 @@ add-if1 c =
     let b = c .before .before in
     omega (arith, child-few (b .before .before .before .before .pre) (b .match .keys1), c .wide32 .ensures)
 
+left-at-requires : tie.Need-left-at-requires
+left-at-requires c κs = search needs
+
 returns : tie.Need-returns
 returns c =
-    let b = c .before .before .before in
-    seq-done (b .before .before .before .before .pre) (b .match .keys1) (c .if1 .taken ∙ c .before .wide32 .ensures .0)
+    let a = c .before in
+    let b = a .before .before .before in
+    rw (c .left-at .ensures)
+    (seq-done (b .before .before .before .before .pre) (b .match .keys1) (a .if1 .taken ∙ a .before .wide32 .ensures .0))
 
 array-read-t35 : tie.Need-array-read-t35
 array-read-t35 c = search needs
@@ -63,6 +68,9 @@ mul-t32 c = omega (arith, row-sizes (c .before .before .before .before .before .
 element-set-from-frames : tie.Need-element-set-from-frames
 element-set-from-frames c = omega (arith, row-sizes (c .before .before .before .before .before .before .before .pre))
 
+entered-at-requires : tie.Need-entered-at-requires
+entered-at-requires c κs = search needs
+
 mul-wide16 : tie.Need-mul-wide16
 mul-wide16 c = omega (arith, row-sizes (c .before .before .before .before .pre))
 
@@ -72,24 +80,34 @@ element-copy-out-wide16 c = omega (arith, row-sizes (c .before .before .before .
 wide16-requires : tie.Need-wide16-requires
 wide16-requires c κs = search needs
 
+left-at-requires-2 : tie.Need-left-at-requires-2
+left-at-requires-2 c κs = search needs
+
 label-in-requires : tie.Need-label-in-requires
 label-in-requires c κs = omega (arith, row-sizes (c .before .before .before .before .before .pre))
 
+entered-at-requires-2 : tie.Need-entered-at-requires-2
+entered-at-requires-2 c κs = search needs
+
 returns-2 : tie.Need-returns-2
 returns-2 c =
-    let b = c .before .before .before in
-    seq-next (b .before .before .before .before .pre) (b .match .keys1) (λ e. c .if1 .left (e ∙ sym (c .before .wide32 .ensures .0)))
+    let a = c .before in
+    let b = a .before .before .before in
+    rw (c .entered-at .ensures)
+    (seq-next (b .before .before .before .before .pre) (b .match .keys1) (λ e. a .if1 .left (e ∙ sym (a .before .wide32 .ensures .0))))
 
 returns-3 : tie.Need-returns-3
 returns-3 c =
-    let b = c .before .before in
-    rw (c .wide16 .ensures) (if-done (b .before .before .before .before .pre) (b .match .keys2))
+    let a = c .before in
+    let b = a .before .before in
+    rw (c .left-at2 .ensures, a .wide16 .ensures) (if-done (b .before .before .before .before .pre) (b .match .keys2))
 
 returns-4 : tie.Need-returns-4
 returns-4 c =
-    let b = c .before .before in
+    let a = c .before in
+    let b = a .before .before in
     let n = b .match .rest in
-    rw (c .label-in .ensures) (while-again (b .before .before .before .before .pre) (n .0 .1) (n .1))
+    rw (c .entered-at2 .ensures, a .label-in .ensures) (while-again (b .before .before .before .before .pre) (n .0 .1) (n .1))
 
 pub leave-spec : {M : Type 1} → statement M
 leave-spec =
@@ -107,15 +125,19 @@ leave-spec =
     shared-slice-read-wide32
     wide32-requires
     add-if1
+    left-at-requires
     returns
     array-read-t35
     add-t39
     mul-t32
     element-set-from-frames
+    entered-at-requires
     mul-wide16
     element-copy-out-wide16
     wide16-requires
+    left-at-requires-2
     label-in-requires
+    entered-at-requires-2
     returns-2
     returns-3
     returns-4)

@@ -1,44 +1,44 @@
 use borrow.Author.Needs.{needs}
-use mathlib.Core.Path.{ap, _∙_}
-use borrow.Author.Tests.{not-true, not-false}
-use Rattle.store.specs.declared.Value.{Value}
-use Rattle.runner.proofs.Admission.{literal-barred, literal-gives}
+use Prim.Native.Nat.{_+_, _-_}
+use mathlib.Core.Path.{_∙_}
+use denote.Ref.{now}
+use Rattle.store.specs.Value.{valueWidth}
+use native.Mathlib.Omega.{arith}
+use Rattle.runner.proofs.Scan.{value-part}
 use Rattle.runner.proofs.literal.Statement.{statement}
 use Rattle.runner.proofs.literal.Tie as tie
 
-add-value-at : tie.Need-add-value-at
-add-value-at c = search needs
+add-from : tie.Need-add-from
+add-from c = omega (arith, c .before .pre, c .before .good)
+
+add-to : tie.Need-add-to
+add-to c = omega (arith, c .before .pre, c .before .good)
+
+sub-value-at : tie.Need-sub-value-at
+sub-value-at c = search needs
+
+part-value-at-start : tie.Need-part-value-at-start
+part-value-at-start c = search needs
+
+part-value-at-end : tie.Need-part-value-at-end
+part-value-at-end c = omega (arith, c .before .pre)
 
 value-at-requires : tie.Need-value-at-requires
 value-at-requires c κs = search needs
 
-wide-requires : tie.Need-wide-requires
-wide-requires c κs = search needs
-
-admitted-requires : tie.Need-admitted-requires
-admitted-requires c κs = search needs
-
 returns : tie.Need-returns
-returns c w s v h =
-    literal-barred w _ _ v s _ _ _ _
-    (c .before .before .wide .ensures ∙ ap (λ (x : Value). x .kind) (c .before .before .before .value-at .ensures))
-    (ap (λ (x : Value). x .payload) (c .before .before .before .value-at .ensures))
-    (c .before .admitted .ensures w s v h) (not-true _ (c .if1 .taken))
-
-returns-2 : tie.Need-returns-2
-returns-2 c w s v h =
-    literal-gives w _ _ v s _ _ _ _
-    (c .before .before .wide .ensures ∙ ap (λ (x : Value). x .kind) (c .before .before .before .value-at .ensures))
-    (ap (λ (x : Value). x .payload) (c .before .before .before .value-at .ensures))
-    (c .before .admitted .ensures w s v h) (not-false _ (c .if1 .left))
+returns c =
+    let a = c .before .before .before .args in
+    c .value-at .ensures ∙ value-part (now (a .code)) (a .at + 1) (a .at + 1 + valueWidth - (a .at + 1)) (omega arith)
 
 pub literal-spec : {M : Type 1} → statement M
 literal-spec =
     tie.close
     (tie.spec
-    add-value-at
+    add-from
+    add-to
+    sub-value-at
+    part-value-at-start
+    part-value-at-end
     value-at-requires
-    wide-requires
-    admitted-requires
-    returns
-    returns-2)
+    returns)
