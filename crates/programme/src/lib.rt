@@ -162,53 +162,42 @@ fn read_body(code: &[u8], slots: usize, ends: &mut [u16; 16384], at: usize, deep
     ensures { λ r. ⌜ Reads marksBody (readBody deep slots (now (code .entry)) at) (length (now (code .entry))) (now (ends .entry)) (now (ends .exit)) r ⌝ }
 {
     let first = code[at];
+    let too_deep = Reading::Refused {
+        number: Reading::TOO_DEEP,
+        at,
+    };
     match first {
         0x20 => {
             if deep == 0 {
-                Reading::Refused {
-                    number: Reading::TOO_DEEP,
-                    at,
-                }
+                too_deep
             } else {
                 Reading::End(at + 1)
             }
         }
         0x21 => {
             if deep == 0 {
-                Reading::Refused {
-                    number: Reading::TOO_DEEP,
-                    at,
-                }
+                too_deep
             } else {
                 read_assign(code, slots, at)
             }
         }
         0x22 => {
             if deep == 0 {
-                Reading::Refused {
-                    number: Reading::TOO_DEEP,
-                    at,
-                }
+                too_deep
             } else {
                 read_seq(code, slots, ends, at, deep - 1)
             }
         }
         0x23 => {
             if deep == 0 {
-                Reading::Refused {
-                    number: Reading::TOO_DEEP,
-                    at,
-                }
+                too_deep
             } else {
                 read_if(code, slots, ends, at, deep - 1)
             }
         }
         0x24 => {
             if deep == 0 {
-                Reading::Refused {
-                    number: Reading::TOO_DEEP,
-                    at,
-                }
+                too_deep
             } else {
                 read_while(code, slots, ends, at, deep - 1)
             }
