@@ -109,12 +109,6 @@ module _ (t : Table) where
     g : Good t
     g = good-at e
 
-    pub below-self : (i : Label) → i < t .n → Below t i i
-    below-self = g .self
-
-    pub below-anti : (i j : Label) → i < t .n → j < t .n → Below t j i → Below t i j → i ≡ j
-    below-anti = g .anti
-
     pub below-trans : (i j k : Label) → i < t .n → j < t .n → k < t .n → Below t k j → Below t j i → Below t k i
     below-trans = g .trans
 
@@ -133,9 +127,6 @@ module _ (t : Table) where
     mask-meet i j hi hj = meet-mask g i j _ hi hj (meet-lt i j hi hj) (meet-meets i j hi hj)
 
     -- what stands at or below a meet stands at or below both
-    pub below-meet : (o i j : Label) → i < t .n → j < t .n → below t o (meet t i j) ≡ below t o i and below t o j
-    below-meet o i j hi hj = ap (λ (x : ℕ). bit x o) (mask-meet i j hi hj) ∙ both-below i j o
-
     top-found : (top t < t .n) × (isTop t (top t) ≡ true)
     unfolding top isTop
     top-found = let k = g .tops in find-at (t .n) _ (k .0) (k .1) (every-of (t .n) _ (k .2))
@@ -151,6 +142,3 @@ module _ (t : Table) where
     mask-top = top-mask g _ top-lt below-top
 
     -- a principal is known by its mask
-    pub mask-one : (i j : Label) → i < t .n → j < t .n → mask t i ≡ mask t j → i ≡ j
-    mask-one i j hi hj q =
-        g .anti i j hi hj (ap (λ (x : ℕ). bit x j) q ∙ g .self j hj) (ap (λ (x : ℕ). bit x i) (sym q) ∙ g .self i hi)

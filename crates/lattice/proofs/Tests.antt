@@ -23,11 +23,6 @@ unfolding _and_
 and-of true b p q = q
 and-of false b p q = p
 
-pub and-false-r : (a b : Bool) → b ≡ false → a and b ≡ false
-unfolding _and_
-and-false-r true b e = e
-and-false-r false b e = refl
-
 pub or-at : (a b : Bool) → a or b ≡ true → (a ≡ true) ⊎ (b ≡ true)
 unfolding _or_
 or-at true b e = inl refl

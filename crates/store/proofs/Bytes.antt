@@ -49,12 +49,3 @@ unfolding valueAt valueBytes
 value-read v k h =
     ap₂ (λ (x p : ℕ). record { kind = x; payload = p }) (omega arith)
     (shifted (v .kind % 256) payloadWidth (numberBytes payloadWidth (v .payload)) 0 ∙ number-read payloadWidth (v .payload) h)
-
--- what a slot holds after it was filled, and after it was assigned to
-pub opened-value : (v : Value) → opened v .value ≡ v
-unfolding opened
-opened-value v = refl
-
-pub assigned-value : (v : Value) (s : Slot) → assigned v s .value ≡ v
-unfolding assigned
-assigned-value v s = refl
