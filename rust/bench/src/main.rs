@@ -1,8 +1,9 @@
 //! Times the proved runner beside the second one, on the same inputs.
 //!
 //! For each workload and rule it prints the best time of each runner, per step
-//! or per run, and their ratio; at the end, how they stand to the demands. No
-//! time changes its exit status.
+//! or per run, and their ratio; then how they stand to the demands, the check
+//! of full-size sheets, and the worst step found. No time changes its exit
+//! status.
 
 #![forbid(unsafe_code)]
 
@@ -11,8 +12,10 @@ mod sheets;
 mod timing;
 mod workloads;
 
+use std::io::{self, Write};
+
 use crate::timing::Case;
-use crate::workloads::{of_limits, of_skipping, of_speed, Unit, Workload};
+use crate::workloads::{full_sheets, of_long_steps, of_skipping, of_speed, Unit, Workload};
 
 /// Full provenance and access control.
 const RULES: [u8; 2] = [3, 0];
@@ -25,26 +28,34 @@ const MOST_RATIO: f64 = 0.5;
 const MOST_SKIPPING: f64 = 1.5;
 
 fn main() {
-    let (speed, skipping, limits) = (of_speed(), of_skipping(), of_limits());
+    let (speed, skipping, full, longest) =
+        (of_speed(), of_skipping(), [full_sheets()], of_long_steps());
     let mut speed = cases(speed.iter());
     let mut short = cases(skipping.iter().map(|[short, _]| short));
     let mut long = cases(skipping.iter().map(|[_, long]| long));
-    let mut limits = cases(limits.iter());
+    let mut full = cases(full.iter());
+    let mut longest = cases(longest.iter());
     for _ in 0..ROUNDS {
         let all = speed.iter_mut().chain(&mut short).chain(&mut long);
-        all.chain(&mut limits).for_each(Case::repeat);
+        let all = all.chain(&mut full).chain(&mut longest);
+        all.for_each(Case::repeat);
     }
-    println!("time in ns                     rule       proved       second  ratio");
-    let all = speed.iter().chain(&short).chain(&long).chain(&limits);
-    all.for_each(print_row);
-    println!();
-    for case in &speed {
-        let subject = format!("{}, rule {}: ratio", case.workload.name, case.rule);
-        print_verdict(&subject, case.ratio(), MOST_RATIO);
-    }
-    for (short, long) in short.iter().zip(&long) {
-        let subject = format!("{}, rule {}: to short", long.workload.name, long.rule);
-        print_verdict(&subject, long.proved() / short.proved(), MOST_SKIPPING);
+    let steps = || speed.iter().chain(&short).chain(&long).chain(&longest);
+    let mut lines = vec![HEADING.to_string()];
+    let rows = speed.iter().chain(&short).chain(&long);
+    lines.extend(rows.chain(&full).chain(&longest).map(row));
+    lines.push(String::new());
+    lines.push("a to d: a step's time by the proved runner to the second's".to_string());
+    lines.extend(speed.iter().map(speed_verdict));
+    lines.push("e: a step's time with a long part not taken to that with a short one".to_string());
+    lines.extend(short.iter().zip(&long).map(skipping_verdict));
+    lines.push("f: the check of full-size sheets, by the proved runner".to_string());
+    lines.extend(full.iter().map(|case| format!("   {}", time_of(case))));
+    lines.extend(worst(steps()).map(|case| format!("worst step found: {}", time_of(case))));
+    for line in lines {
+        if writeln!(io::stdout(), "{line}").is_err() {
+            return; // Nobody reads on.
+        }
     }
 }
 
@@ -55,12 +66,14 @@ fn cases<'a>(workloads: impl Iterator<Item = &'a Workload>) -> Vec<Case<'a>> {
         .collect()
 }
 
-fn print_row(case: &Case) {
+const HEADING: &str = "time in ns                     rule       proved       second  ratio  for";
+
+fn row(case: &Case) -> String {
     let unit = match case.workload.unit {
         Unit::Step => "a step",
         Unit::Run => "a run",
     };
-    println!(
+    format!(
         "{:<30} {:>4} {:>12.2} {:>12.2} {:>6.2}  {unit}{}",
         case.workload.name,
         case.rule,
@@ -68,7 +81,19 @@ fn print_row(case: &Case) {
         case.second(),
         case.ratio(),
         whole_runs(case)
-    );
+    )
+}
+
+/// The proved runner's time, and of what.
+fn time_of(case: &Case) -> String {
+    const NANOSECONDS: f64 = 1000.0;
+    let (time, name, rule) = (case.proved() / NANOSECONDS, case.workload.name, case.rule);
+    format!("{time:.2} µs ({name}, rule {rule})")
+}
+
+/// The case whose steps take the proved runner longest.
+fn worst<'a, 'b: 'a>(cases: impl Iterator<Item = &'a Case<'b>>) -> Option<&'a Case<'b>> {
+    cases.max_by(|one, other| one.proved().total_cmp(&other.proved()))
 }
 
 /// Whole runs a second, where a run is short.
@@ -81,11 +106,20 @@ fn whole_runs(case: &Case) -> String {
     format!(" (runs a second: {proved:.0} and {second:.0})")
 }
 
-fn print_verdict(subject: &str, value: f64, most: f64) {
+fn speed_verdict(case: &Case) -> String {
+    verdict(case, case.ratio(), MOST_RATIO)
+}
+
+fn skipping_verdict((short, long): (&Case, &Case)) -> String {
+    verdict(long, long.proved() / short.proved(), MOST_SKIPPING)
+}
+
+fn verdict(case: &Case, value: f64, most: f64) -> String {
     let standing = if value <= most {
         "at or below"
     } else {
         "ABOVE"
     };
-    println!("{subject} {value:.2}, {standing} {most}");
+    let (name, rule) = (case.workload.name, case.rule);
+    format!("   {name}, rule {rule}: {value:.2}, {standing} {most}")
 }

@@ -135,13 +135,23 @@ fn else_part_skipped(name: &'static str, part: &Code) -> Workload {
     Workload::new(name, &values, &[forever(body)])
 }
 
-/// (f) and (g): times with no demand on them.
-pub fn of_limits() -> Vec<Workload> {
-    vec![full_sheets(), chains_on_both_sides(), skips_for_a_step()]
+/// (g): the steps that take longest, each in another way.
+pub fn of_long_steps() -> Vec<Workload> {
+    let flat = sequence(&vec![sequence(&vec![skip(); 255]); 63]);
+    let short = sequence(&[skip(), skip()]);
+    let pairs = sequence(&vec![sequence(&vec![short; 240]); 17]);
+    let deep = (0..29).fold(skip(), |inner, _| sequence(&[inner, skip()]));
+    let deeply = sequence(&vec![deep; 185]);
+    vec![
+        chains_on_both_sides(),
+        skips_for_a_step("g  16,065 skips a step", flat),
+        skips_for_a_step("g  8,160 skips in pairs a step", pairs),
+        skips_for_a_step("g  5,550 skips 32 deep a step", deeply),
+    ]
 }
 
-/// Judging sheets as large as they may be: no step is allowed.
-fn full_sheets() -> Workload {
+/// (f): judging sheets as large as they may be. No step is allowed.
+pub fn full_sheets() -> Workload {
     let block = filled(MOST_CODE / MOST_BLOCKS);
     Workload {
         name: "f  full sheets, budget 0",
@@ -166,10 +176,9 @@ fn chains_on_both_sides() -> Workload {
 
 /// The step that enters most commands: a skip is none, so a guard may stand
 /// for a body full of them.
-fn skips_for_a_step() -> Workload {
-    let body = sequence(&vec![sequence(&vec![skip(); 255]); 63]);
+fn skips_for_a_step(name: &'static str, body: Code) -> Workload {
     Workload {
         budget: 400,
-        ..Workload::new("g  16,065 skips a step", &[], &[forever(body)])
+        ..Workload::new(name, &[], &[forever(body)])
     }
 }

@@ -5,6 +5,7 @@
 //! and minds the rules as far as its care goes: with all of it a programme
 //! finishes under every rule, with less some step is forbidden.
 
+mod large;
 mod loops;
 
 use crate::code::{Block, Command, Expression};

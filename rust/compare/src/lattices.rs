@@ -8,6 +8,38 @@ use crate::random::Random;
 
 pub const MOST_PRINCIPALS: usize = 32;
 
+#[derive(Debug, Clone, Copy, PartialEq, Eq)]
+enum Shape {
+    Chain,
+    Diamond,
+    Product,
+    TreeWithTop,
+    FamilyOfSets,
+}
+
+impl Shape {
+    /// Families of sets twice, since every shape is among them.
+    const ALL: [Shape; 6] = [
+        Shape::Chain,
+        Shape::Diamond,
+        Shape::Product,
+        Shape::TreeWithTop,
+        Shape::FamilyOfSets,
+        Shape::FamilyOfSets,
+    ];
+
+    /// The masks of a lattice of this shape, of at most so many principals.
+    fn masks(self, random: &mut Random, most: usize) -> Vec<u32> {
+        match self {
+            Shape::Chain => Lattice::chain(most).masks,
+            Shape::Diamond => diamond(most),
+            Shape::Product => product(random, most),
+            Shape::TreeWithTop => tree_with_top(random, most),
+            Shape::FamilyOfSets => family_of_sets(random, most),
+        }
+    }
+}
+
 /// A good order table.
 #[derive(Debug, Clone)]
 pub struct Lattice {
@@ -25,13 +57,8 @@ impl Lattice {
     /// A lattice of any shape and size, its principals numbered at random.
     pub fn random(random: &mut Random) -> Lattice {
         let most = random_size(random);
-        let masks = match random.below(6) {
-            0 => Lattice::chain(most).masks,
-            1 => diamond(most),
-            2 => product(random, most),
-            3 => tree_with_top(random, most),
-            _ => family_of_sets(random, most),
-        };
+        let shape = random.pick(&Shape::ALL);
+        let masks = shape.masks(random, most);
         Lattice {
             masks: renumbered(random, &masks),
         }
@@ -196,6 +223,20 @@ pub mod tests {
             seen[lattice.principals()] = true;
         }
         assert!(seen[1..].iter().all(|size| *size), "{seen:?}");
+    }
+
+    #[test]
+    fn every_shape_comes_with_one_principal_and_with_all() {
+        for shape in Shape::ALL {
+            for size in [1, MOST_PRINCIPALS] {
+                let tables: Vec<Vec<u32>> = (0..100)
+                    .map(|case| shape.masks(&mut Random::of_case(5, case), size))
+                    .collect();
+                assert!(tables.iter().all(|masks| verdict(masks) == 0));
+                let reached = tables.iter().any(|masks| masks.len() == size);
+                assert!(reached, "{shape:?} of {size}");
+            }
+        }
     }
 
     #[test]

@@ -38,6 +38,8 @@ mod tally;
 mod values;
 
 use std::env;
+use std::fmt::Display;
+use std::io::{self, ErrorKind, Write};
 use std::process::ExitCode;
 
 use crate::calls::Difference;
@@ -64,12 +66,12 @@ impl Play {
         }
     }
 
-    /// So many take some seconds.
+    /// So many of all three take about a minute together.
     fn default_count(self) -> u64 {
         match self {
-            Play::Sheets => 120_000,
-            Play::Runs => 40_000,
-            Play::Pairs => 40_000,
+            Play::Sheets => 240_000,
+            Play::Runs => 60_000,
+            Play::Pairs => 60_000,
         }
     }
 }
@@ -105,8 +107,41 @@ impl Arguments {
     }
 }
 
-/// What is wrong after a play, in words.
-type Complaints = Vec<String>;
+/// What is said of a play, and what is wrong with it, line by line.
+#[derive(Debug, Default)]
+struct Report {
+    lines: Vec<String>,
+    complaints: Vec<String>,
+}
+
+impl Report {
+    fn say(&mut self, line: impl Display) {
+        self.lines.push(line.to_string());
+    }
+
+    /// How often each answer came up.
+    fn say_answers(&mut self, tallies: &[&Tally]) {
+        self.say(Tally::heading());
+        tallies.iter().for_each(|tally| self.say(tally));
+        self.say("(-: cannot come up)");
+    }
+
+    fn differs(&mut self, difference: Difference) {
+        let complaint = format!("the runners differ:\n{}", difference.shrunk());
+        self.complaints.push(complaint);
+    }
+
+    /// Writes it all. A reader that has read enough is no failure.
+    fn write_to(&self, out: &mut impl Write) -> io::Result<()> {
+        for line in self.lines.iter().chain(&self.complaints) {
+            match writeln!(out, "{line}") {
+                Err(error) if error.kind() == ErrorKind::BrokenPipe => return Ok(()),
+                written => written?,
+            }
+        }
+        Ok(())
+    }
+}
 
 fn main() -> ExitCode {
     let words: Vec<String> = env::args().skip(1).collect();
@@ -114,61 +149,115 @@ fn main() -> ExitCode {
         eprintln!("{USAGE}");
         return ExitCode::from(2);
     };
-    let complaints = match play {
+    let report = match play {
         Play::Sheets => play_sheets(seed, count),
         Play::Runs => play_runs(seed, count),
         Play::Pairs => play_pairs(seed, count),
     };
-    for complaint in &complaints {
-        println!("{complaint}");
+    if let Err(error) = report.write_to(&mut io::stdout()) {
+        eprintln!("the report cannot be written: {error}");
+        return ExitCode::from(2);
     }
-    ExitCode::from(u8::from(!complaints.is_empty()))
+    ExitCode::from(u8::from(!report.complaints.is_empty()))
 }
 
-fn play_sheets(seed: u64, count: u64) -> Complaints {
+fn play_sheets(seed: u64, count: u64) -> Report {
+    let mut report = Report::default();
     match play_sheets::play(seed, count) {
         Ok(played) => {
-            println!("{count} sheets of seed {seed}: no difference");
-            report(&played.tallies())
+            report.say(format!("{count} sheets of seed {seed}: no difference"));
+            report.say_answers(&played.tallies());
+            report.complaints = played.tallies().map(Tally::complaints).concat();
         }
-        Err(difference) => differs(*difference),
+        Err(difference) => report.differs(*difference),
     }
+    report
 }
 
-fn play_runs(seed: u64, count: u64) -> Complaints {
+fn play_runs(seed: u64, count: u64) -> Report {
+    let mut report = Report::default();
     match play_runs::play(seed, count) {
         Ok(played) => {
             let tallies = played.tallies();
             let runs: u64 = tallies.iter().map(|tally| tally.total()).sum();
-            println!("{count} pairs of sheets of seed {seed}, {runs} runs: no difference");
-            report(&tallies)
+            report.say(format!(
+                "{count} pairs of sheets of seed {seed}, {runs} runs: no difference"
+            ));
+            report.say_answers(&tallies);
+            report.say(played.budgets);
+            report.complaints = played.complaints();
         }
-        Err(difference) => differs(*difference),
+        Err(difference) => report.differs(*difference),
     }
+    report
 }
 
-fn play_pairs(seed: u64, count: u64) -> Complaints {
+fn play_pairs(seed: u64, count: u64) -> Report {
+    let mut report = Report::default();
     match play_pairs::play(seed, count) {
         Ok(played) => {
-            println!("{count} pairs of runs of seed {seed}: isolated under rule 3");
-            for (rule, counts) in played.rules() {
-                println!("rule {rule}: {counts}");
-            }
-            played.complaints()
+            report.say(format!(
+                "{count} pairs of runs of seed {seed}: isolated under rule 3"
+            ));
+            played.lines().iter().for_each(|line| report.say(line));
+            report.complaints = played.complaints();
         }
-        Err(Stopped::Differs(difference)) => differs(*difference),
-        Err(Stopped::Leaks(leak)) => vec![format!("not isolated:\n{leak}")],
+        Err(Stopped::Differs(difference)) => report.differs(*difference),
+        Err(Stopped::Leaks(leak)) => report.complaints.push(format!("not isolated:\n{leak}")),
+        Err(Stopped::Hides(calls)) => {
+            let [one, other] = *calls;
+            report.complaints.push(format!(
+                "protected slots differ and end alike:\n{one}{other}"
+            ));
+        }
     }
+    report
 }
 
-fn differs(difference: Difference) -> Complaints {
-    vec![format!("the runners differ:\n{}", difference.shrunk())]
-}
+#[cfg(test)]
+mod tests {
+    use super::*;
 
-fn report(tallies: &[&Tally]) -> Complaints {
-    println!("{}", Tally::heading());
-    tallies.iter().for_each(|tally| println!("{tally}"));
-    println!("(-: cannot come up)");
-    let complaints = tallies.iter().flat_map(|tally| tally.complaints());
-    complaints.collect()
+    /// A place to write that fails in this way.
+    struct Failing(ErrorKind);
+
+    impl Write for Failing {
+        fn write(&mut self, _: &[u8]) -> io::Result<usize> {
+            Err(self.0.into())
+        }
+
+        fn flush(&mut self) -> io::Result<()> {
+            Ok(())
+        }
+    }
+
+    #[test]
+    fn only_a_reader_that_stops_is_no_failure() {
+        let mut report = Report::default();
+        report.say("a line");
+        assert!(report.write_to(&mut Failing(ErrorKind::BrokenPipe)).is_ok());
+        assert!(report
+            .write_to(&mut Failing(ErrorKind::StorageFull))
+            .is_err());
+        let mut written = Vec::new();
+        report.complaints.push("a complaint".to_string());
+        report.write_to(&mut written).expect("room in memory");
+        assert_eq!(written, b"a line\na complaint\n");
+    }
+
+    fn arguments(line: &str) -> Option<Arguments> {
+        let words: Vec<String> = line.split(' ').map(str::to_string).collect();
+        Arguments::from_words(&words)
+    }
+
+    #[test]
+    fn any_seed_and_count_can_be_asked_for() {
+        let asked = arguments("runs --seed 7 --count 9").expect("good arguments");
+        assert_eq!((asked.seed, asked.count), (7, 9));
+        let fixed = arguments("pairs").expect("good arguments");
+        assert_eq!(fixed.seed, DEFAULT_SEED);
+        assert!(arguments("runs --seed").is_none());
+        assert!(arguments("runs --count many").is_none());
+        assert!(arguments("walks").is_none());
+    }
 }

@@ -7,6 +7,12 @@
 //! endorsed block, and in each of two replacements the blocks within reach are
 //! any blocks within reach. If both runs finish, they end alike in the
 //! protected slots.
+//!
+//! So says one direction of demand 3. The other: two stores that differ in a
+//! protected slot have a programme that shows it. One with no blocks does.
+//!
+//! The demand is also played with a condition left out. Then some pairs must
+//! end differently in a protected slot, or the condition would not be needed.
 
 use std::fmt::{self, Display, Formatter};
 
@@ -53,15 +59,56 @@ impl Display for Counts {
     }
 }
 
+/// A condition of demand 3 that a pair is made without.
+#[derive(Debug, Clone, Copy, PartialEq, Eq)]
+enum Without {
+    /// The blocks outside the adversary's reach are not endorsed.
+    Unendorsed,
+    /// They are the same in both replacements.
+    Unchanged,
+}
+
+impl Without {
+    const ALL: [Without; 2] = [Without::Unendorsed, Without::Unchanged];
+
+    fn words(self) -> &'static str {
+        match self {
+            Without::Unendorsed => "rule 3, blocks out of reach may be endorsed",
+            Without::Unchanged => "rule 3, blocks out of reach may be replaced",
+        }
+    }
+}
+
 #[derive(Debug, Clone, Default)]
 pub struct Played {
-    pub pairs: u64,
+    pairs: u64,
     rules: [Counts; RULES.len()],
+    without: [Counts; Without::ALL.len()],
+    /// Pairs of stores that differ in a protected slot and end differently.
+    shown: u64,
 }
 
 impl Played {
-    pub fn rules(&self) -> impl Iterator<Item = (u8, Counts)> + '_ {
+    fn rules(&self) -> impl Iterator<Item = (u8, Counts)> + '_ {
         RULES.into_iter().zip(self.rules)
+    }
+
+    fn without(&self) -> impl Iterator<Item = (&'static str, Counts)> + '_ {
+        Without::ALL
+            .map(Without::words)
+            .into_iter()
+            .zip(self.without)
+    }
+
+    /// The counts, in words.
+    pub fn lines(&self) -> Vec<String> {
+        let rules = self.rules();
+        let rules = rules.map(|(rule, counts)| format!("rule {rule}: {counts}"));
+        let without = self.without();
+        let without = without.map(|(words, counts)| format!("{words}: {counts}"));
+        let shown = self.shown;
+        let back = format!("{shown} pairs of stores differ in a protected slot, and end so");
+        rules.chain(without).chain([back]).collect()
     }
 
     /// What is wrong with these counts, in words.
@@ -76,7 +123,12 @@ impl Played {
             .rules()
             .filter(|(rule, counts)| *rule != FULL_PROVENANCE && counts.leaked == 0)
             .map(|(rule, _)| format!("rule {rule}: no pair ends differently where protected"));
-        idle.chain(blind).collect()
+        let needless = self
+            .without()
+            .filter(|(_, counts)| counts.leaked == 0)
+            .map(|(words, _)| format!("{words}: no pair ends differently where protected"));
+        let unseen = (self.shown == 0).then(|| "no stores differ where protected".to_string());
+        idle.chain(blind).chain(needless).chain(unseen).collect()
     }
 }
 
@@ -84,7 +136,10 @@ impl Played {
 #[derive(Debug, Clone)]
 pub enum Stopped {
     Differs(Box<Difference>),
+    /// Runs that demand 3 says end alike don't.
     Leaks(Box<Leak>),
+    /// Runs that demand 3 says end differently don't.
+    Hides(Box<[Call; 2]>),
 }
 
 /// Two runs under full provenance that end differently in a protected slot.
@@ -115,21 +170,34 @@ struct Pair {
     budgets: [u32; 2],
 }
 
-/// Plays so many pairs under each rule.
+/// Plays so many pairs under each rule, without each of two conditions, and
+/// back.
 pub fn play(seed: u64, count: u64) -> Result<Played, Stopped> {
     let mut played = Played::default();
     for case in 0..count {
-        let pair = Pair::random(&mut Random::of_case(seed, case));
+        let random = &mut Random::of_case(seed, case);
+        let pair = Pair::random(random, None);
         played.pairs += 1;
         for (place, rule) in RULES.into_iter().enumerate() {
-            pair.play(rule, &mut played.rules[place])?;
+            let leak = pair.play(rule, &mut played.rules[place])?;
+            if let (FULL_PROVENANCE, Some(leak)) = (rule, leak) {
+                return Err(Stopped::Leaks(Box::new(leak)));
+            }
+        }
+        for (place, without) in Without::ALL.into_iter().enumerate() {
+            let pair = Pair::random(random, Some(without));
+            pair.play(FULL_PROVENANCE, &mut played.without[place])?;
+        }
+        if let Some(pair) = Pair::of_unlike_stores(random) {
+            pair.play_back()?;
+            played.shown += 1;
         }
     }
     Ok(played)
 }
 
 impl Pair {
-    fn random(random: &mut Random) -> Pair {
+    fn random(random: &mut Random, without: Option<Without>) -> Pair {
         let (adversary, table) = random_table(random);
         let first = Store::with_table(random, table);
         let second = altered(random, &first, adversary);
@@ -140,7 +208,7 @@ impl Pair {
             branches: random.pick(&[100, 60, 0]),
             ..Care::FULL
         };
-        let replacements = random_replacements(random, &stores, adversary, care);
+        let replacements = random_replacements(random, &stores, adversary, care, without);
         let budgets = [random_budget(random), random_budget(random)];
         Pair {
             adversary,
@@ -150,30 +218,53 @@ impl Pair {
         }
     }
 
-    fn play(&self, rule: u8, counts: &mut Counts) -> Result<(), Stopped> {
+    /// Stores that differ in a protected slot too, if there is one, and no
+    /// blocks.
+    fn of_unlike_stores(random: &mut Random) -> Option<Pair> {
+        let mut pair = Pair::random(random, None);
+        let protected: Vec<usize> = pair.protected().collect();
+        let slot = random.pick_any(&protected)?;
+        let old = pair.stores[1].values[slot];
+        let new = Value::random(random, pair.stores[1].table.slots());
+        pair.stores[1].values[slot] = new;
+        pair.replacements = [Vec::new(), Vec::new()];
+        (new != old).then_some(pair)
+    }
+
+    /// Both runs. If they finish and end differently in a protected slot, that
+    /// is a leak.
+    fn play(&self, rule: u8, counts: &mut Counts) -> Result<Option<Leak>, Stopped> {
         let calls = [0, 1].map(|side| self.call(side, rule));
         let seen = |call: &Call| call.compare().map_err(Stopped::Differs);
         let ends = [seen(&calls[0])?, seen(&calls[1])?];
         if ends.iter().any(|end| end.answer.number != 0) {
-            return Ok(());
+            return Ok(None);
         }
         counts.finished += 1;
         counts.told_apart += u64::from(ends[0].output() != ends[1].output());
         counts.written += u64::from(self.wrote_protected(&ends));
         let Some(slot) = self.leak(&ends) else {
-            return Ok(());
+            return Ok(None);
         };
         counts.leaked += 1;
-        if rule != FULL_PROVENANCE {
-            return Ok(());
-        }
         let [one, other] = calls;
         let [one_end, other_end] = ends;
-        Err(Stopped::Leaks(Box::new(Leak {
+        Ok(Some(Leak {
             adversary: self.adversary,
             slot,
             runs: [(one, one_end), (other, other_end)],
-        })))
+        }))
+    }
+
+    /// Both runs finish and end differently in a protected slot, or it stops.
+    fn play_back(&self) -> Result<(), Stopped> {
+        match self.play(FULL_PROVENANCE, &mut Counts::default())? {
+            Some(_) => Ok(()),
+            None => {
+                let calls = [0, 1].map(|side| self.call(side, FULL_PROVENANCE));
+                Err(Stopped::Hides(Box::new(calls)))
+            }
+        }
     }
 
     fn call(&self, side: usize, rule: u8) -> Call {
@@ -260,33 +351,50 @@ fn random_budget(random: &mut Random) -> u32 {
 }
 
 /// Two replacements of a programme with no endorsed block. They share the
-/// blocks outside the adversary's reach and now and then one within it.
+/// blocks outside the adversary's reach and now and then one within it, unless
+/// a condition is left out.
 fn random_replacements(
     random: &mut Random,
     stores: &[Store; 2],
     adversary: u8,
     care: Care,
+    without: Option<Without>,
 ) -> [Vec<Block>; 2] {
     let mut other_random = random.split();
     let mut one = Author::new(random, &stores[0], care);
     let mut other = Author::new(&mut other_random, &stores[1], care);
     let mut replacements = [Vec::new(), Vec::new()];
-    for _ in 0..one.random().between(1, 7) {
-        let (block, again) = if one.random().one_in(2) {
-            let block = block_within_reach(&mut one, adversary);
-            (block, one.random().one_in(6))
-        } else {
-            (block_outside_reach(&mut one, adversary), true)
+    for _ in 0..random_count(one.random()) {
+        let within = one.random().one_in(2);
+        let block = match within {
+            true => block_within_reach(&mut one, adversary),
+            false => block_outside_reach(&mut one, adversary, without),
         };
-        if again {
-            other.watch(&block);
-            replacements[1].push(block.clone());
-        } else {
-            replacements[1].push(block_within_reach(&mut other, adversary));
-        }
+        let again = match within {
+            true => one.random().one_in(6),
+            false => without != Some(Without::Unchanged) || one.random().one_in(2),
+        };
+        let in_its_place = match (again, within) {
+            (true, _) => {
+                other.watch(&block);
+                block.clone()
+            }
+            (false, true) => block_within_reach(&mut other, adversary),
+            (false, false) => block_outside_reach(&mut other, adversary, without),
+        };
         replacements[0].push(block);
+        replacements[1].push(in_its_place);
     }
     replacements
+}
+
+/// Mostly few blocks, now and then none or up to as many as there may be.
+fn random_count(random: &mut Random) -> usize {
+    match random.below(50) {
+        0 => 0,
+        1 => random.between(8, Block::MOST),
+        _ => random.between(1, 7),
+    }
 }
 
 fn block_within_reach(author: &mut Author, adversary: u8) -> Block {
@@ -297,11 +405,12 @@ fn block_within_reach(author: &mut Author, adversary: u8) -> Block {
     author.block(region, endorsed)
 }
 
-fn block_outside_reach(author: &mut Author, adversary: u8) -> Block {
+fn block_outside_reach(author: &mut Author, adversary: u8, without: Option<Without>) -> Block {
     let lattice = &author.table().lattice;
     let regions = lattice.principals_where(|region| !lattice.at_or_below(region, adversary));
     let region = author.random().pick(&regions);
-    author.block(region, false)
+    let endorsed = without == Some(Without::Unendorsed) && author.random().one_in(2);
+    author.block(region, endorsed)
 }
 
 #[cfg(test)]
@@ -317,10 +426,31 @@ mod tests {
         assert!(complaints.is_empty(), "{complaints:?}");
     }
 
+    /// Without a condition, and with protected slots that differ, there is
+    /// something to see.
+    #[test]
+    fn what_is_never_seen_is_told() {
+        let mut played = play(DEFAULT_SEED, 1_000).expect("no difference and no leak");
+        assert!(played.complaints().is_empty());
+        played.shown = 0;
+        played.without = Default::default();
+        assert_eq!(played.complaints().len(), 1 + Without::ALL.len());
+    }
+
+    #[test]
+    fn stores_that_end_alike_are_not_shown() {
+        let mut pair = (0..)
+            .find_map(|case| Pair::of_unlike_stores(&mut Random::of_case(16, case)))
+            .expect("stores that differ");
+        assert!(pair.play_back().is_ok());
+        pair.stores[1] = pair.stores[0].clone();
+        assert!(matches!(pair.play_back(), Err(Stopped::Hides(_))));
+    }
+
     #[test]
     fn a_pair_differs_only_where_the_adversary_reaches() {
         for case in 0..500 {
-            let pair = Pair::random(&mut Random::of_case(13, case));
+            let pair = Pair::random(&mut Random::of_case(13, case), None);
             let [one, other] = &pair.stores;
             assert_eq!(one.table.sheet().bytes, other.table.sheet().bytes);
             assert!(pair

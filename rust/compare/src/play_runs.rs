@@ -1,9 +1,12 @@
 //! Whole runs under every rule, with budgets around the steps they need.
 
+use std::fmt::{self, Display, Formatter};
+
+use crate::answers::Answer;
 use crate::calls::{Call, Difference, Run};
 use crate::damage::damaged;
 use crate::limits::programme_at_limit;
-use crate::play_sheets::{good_programme, random_programme};
+use crate::play_sheets::{good_programme, large_programme, random_programme};
 use crate::random::Random;
 use crate::sheets::{flawed_store_sheet, Store};
 use crate::tally::Tally;
@@ -24,11 +27,56 @@ const RULES: [(u8, &[u32], &[u32]); 5] = [
     (255, &[14], &[15, 16]),
 ];
 
-/// Counts of each rule, and of rule numbers that there are not.
+/// How many runs had which budget beside the steps that they do when they have
+/// enough. Runs that are refused before their first step don't count.
+#[derive(Debug, Clone, Copy, Default)]
+pub struct Budgets {
+    one_less: u64,
+    exact: u64,
+    one_more: u64,
+}
+
+impl Budgets {
+    fn count(&mut self, budget: u32, steps: u32) {
+        match i64::from(budget) - i64::from(steps) {
+            -1 => self.one_less += 1,
+            0 => self.exact += 1,
+            1 => self.one_more += 1,
+            _ => (),
+        }
+    }
+
+    fn complaints(&self) -> Vec<String> {
+        let counts = [self.one_less, self.exact, self.one_more];
+        if counts.contains(&0) {
+            vec![format!("one of these never came up: {self}")]
+        } else {
+            Vec::new()
+        }
+    }
+}
+
+impl Display for Budgets {
+    fn fmt(&self, out: &mut Formatter) -> fmt::Result {
+        let Budgets {
+            one_less,
+            exact,
+            one_more,
+        } = self;
+        write!(
+            out,
+            "budget beside the steps that a run does: \
+             one less {one_less}, as many {exact}, one more {one_more}"
+        )
+    }
+}
+
+/// Counts of each rule, of rule numbers that there are not, and of budgets.
 #[derive(Debug, Clone)]
 pub struct Played {
-    pub rules: Vec<(u8, Tally)>,
-    pub other: Tally,
+    rules: Vec<(u8, Tally)>,
+    other: Tally,
+    pub budgets: Budgets,
 }
 
 impl Played {
@@ -47,7 +95,15 @@ impl Played {
         Played {
             rules: RULES.into_iter().map(tally).collect(),
             other: Tally::new("another rule", &[11], &not_11),
+            budgets: Budgets::default(),
         }
+    }
+
+    /// What is wrong with these counts, in words.
+    pub fn complaints(&self) -> Vec<String> {
+        let tallies = self.tallies();
+        let answers = tallies.iter().flat_map(|tally| tally.complaints());
+        answers.chain(self.budgets.complaints()).collect()
     }
 
     pub fn tallies(&self) -> Vec<&Tally> {
@@ -69,7 +125,13 @@ pub fn play(seed: u64, count: u64) -> Result<Played, Box<Difference>> {
         let random = &mut Random::of_case(seed, case);
         let (store, programme) = random_sheets(random);
         for (rule, _, _) in RULES {
-            let run = random_run(random, &store, &programme, rule);
+            let mut run = plain_run(&store, &programme, rule);
+            let ample = run.second().answer;
+            run.budget = random_budget(random, ample);
+            if took_place(ample) {
+                played.budgets.count(run.budget, ample.steps);
+            }
+            change_arguments(random, &mut run);
             let (rule, call) = (run.rule, Call::Run(run));
             played.count(rule, call.compare()?.answer.number);
         }
@@ -92,20 +154,29 @@ fn random_sheets(random: &mut Random) -> (Vec<u8>, Vec<u8>) {
         }
         2 => (sheet.bytes, random_programme(random, &store)),
         3 => (sheet.bytes, programme_at_limit(random, &store).bytes),
+        4 | 5 => (sheet.bytes, large_programme(random, &store).bytes),
         _ => (sheet.bytes, good_programme(random, &store).bytes),
     }
 }
 
-fn random_run(random: &mut Random, store: &[u8], programme: &[u8], rule: u8) -> Run {
-    let mut run = Run {
+/// A run with enough budget and the output that the store sheet asks for.
+fn plain_run(store: &[u8], programme: &[u8], rule: u8) -> Run {
+    Run {
         store: store.to_vec(),
         programme: programme.to_vec(),
         rule,
         budget: AMPLE,
         output_length: wanted_output(store),
-    };
-    let ample = run.second().answer;
-    run.budget = random_budget(random, ample.steps, ample.number == 17);
+    }
+}
+
+/// Whether blocks ran with enough budget, up to their end or a refusal.
+fn took_place(ample: Answer) -> bool {
+    matches!(ample.number, 0 | 13..=16)
+}
+
+/// Now and then another length of the output, and any rule number.
+fn change_arguments(random: &mut Random, run: &mut Run) {
     if random.one_in(20) {
         run.output_length = other_length(random, run.output_length);
     }
@@ -115,7 +186,6 @@ fn random_run(random: &mut Random, store: &[u8], programme: &[u8], rule: u8) -> 
             false => random.byte(),
         };
     }
-    run
 }
 
 /// The output's length by the size on the sheet, however long the sheet is.
@@ -138,8 +208,9 @@ fn other_length(random: &mut Random, right: usize) -> usize {
 
 /// A budget around the steps that the run does when it has enough. One that
 /// has no end gets a large budget only now and then, since it takes long.
-fn random_budget(random: &mut Random, steps: u32, endless: bool) -> u32 {
-    let large = if endless && !random.one_in(200) {
+fn random_budget(random: &mut Random, ample: Answer) -> u32 {
+    let steps = ample.steps;
+    let large = if ample.number == 17 && !random.one_in(200) {
         AMPLE
     } else {
         MOST_BUDGET
@@ -161,14 +232,68 @@ mod tests {
     use crate::DEFAULT_SEED;
 
     #[test]
-    fn every_answer_comes_up() {
+    fn every_answer_and_budget_comes_up() {
         let played = play(DEFAULT_SEED, 5_000).expect("no difference");
-        let complaints: Vec<String> = played
-            .tallies()
-            .iter()
-            .flat_map(|tally| tally.complaints())
-            .collect();
+        let complaints = played.complaints();
         assert!(complaints.is_empty(), "{complaints:?}");
+    }
+
+    #[test]
+    fn a_budget_that_never_comes_up_is_told() {
+        let mut budgets = Budgets::default();
+        budgets.count(4, 5);
+        budgets.count(5, 5);
+        assert_eq!(budgets.complaints().len(), 1);
+        budgets.count(6, 5);
+        assert!(budgets.complaints().is_empty());
+    }
+
+    /// What both runners answer.
+    fn answer(run: &Run) -> Answer {
+        let call = Call::Run(run.clone());
+        call.compare().expect("no difference").answer
+    }
+
+    /// The first so many runs that finish or are refused in a step, with the
+    /// answer.
+    fn runs_that_take_place(count: usize) -> Vec<(Run, Answer)> {
+        let cases = (0..).map(|case| {
+            let random = &mut Random::of_case(15, case);
+            let (store, programme) = random_sheets(random);
+            let run = plain_run(&store, &programme, random.pick(&RULES).0);
+            let ample = answer(&run);
+            (run, ample)
+        });
+        let suitable = cases.filter(|(_, ample)| took_place(*ample));
+        suitable.take(count).collect()
+    }
+
+    /// A run that finishes needs as many steps as it does, and one that is
+    /// refused in a step needs that one more.
+    #[test]
+    fn the_steps_are_those_needed() {
+        for (mut run, ample) in runs_that_take_place(2_000) {
+            let needed = ample.steps + u32::from(ample.number != 0);
+            run.budget = needed;
+            assert_eq!(answer(&run), ample);
+            run.budget = needed + 1;
+            assert_eq!(answer(&run), ample);
+            if needed > 0 {
+                run.budget = needed - 1;
+                let spent = answer(&run);
+                assert_eq!((spent.number, spent.steps), (17, needed - 1));
+            }
+        }
+    }
+
+    #[test]
+    fn every_other_rule_number_is_refused() {
+        let (mut run, _) = runs_that_take_place(1).remove(0);
+        for rule in 0..=255 {
+            run.rule = rule;
+            let known = RULES.iter().any(|(known, _, _)| *known == rule);
+            assert_eq!(answer(&run).number == 11, !known, "rule {rule}");
+        }
     }
 
     #[test]

@@ -121,11 +121,16 @@ fn nearby(random: &mut Random, size: usize, least: usize, most: usize) -> usize 
 pub fn random_programme(random: &mut Random, store: &Store) -> Vec<u8> {
     match random.below(20) {
         0..=5 => good_programme(random, store).bytes,
-        6 | 7 => programme_at_limit(random, store).bytes,
+        6 => programme_at_limit(random, store).bytes,
+        7 => large_programme(random, store).bytes,
         8 => formless_programme(random, store.table.lattice.principals()).bytes,
         9 => formless(random),
-        10 | 11 => {
+        10 => {
             let sheet = programme_at_limit(random, store);
+            damaged(random, &sheet)
+        }
+        11 => {
+            let sheet = large_programme(random, store);
             damaged(random, &sheet)
         }
         _ => {
@@ -133,6 +138,12 @@ pub fn random_programme(random: &mut Random, store: &Store) -> Vec<u8> {
             damaged(random, &sheet)
         }
     }
+}
+
+/// A good programme that is deep or long.
+pub fn large_programme(random: &mut Random, store: &Store) -> Sheet {
+    let care = Care::random(random);
+    programme_sheet(&Author::new(random, store, care).large_programme())
 }
 
 pub fn good_programme(random: &mut Random, store: &Store) -> Sheet {

@@ -11,6 +11,8 @@ pub const NUMBERS: usize = 18;
 pub struct Tally {
     name: String,
     counts: [u64; NUMBERS],
+    /// Answers with a number that there is not.
+    unknown: u64,
     due: Vec<u32>,
     impossible: Vec<u32>,
 }
@@ -20,15 +22,15 @@ impl Tally {
         Tally {
             name: name.to_string(),
             counts: [0; NUMBERS],
+            unknown: 0,
             due: due.to_vec(),
             impossible: impossible.to_vec(),
         }
     }
 
     pub fn count(&mut self, number: u32) {
-        if let Some(count) = self.counts.get_mut(number as usize) {
-            *count += 1;
-        }
+        let count = self.counts.get_mut(number as usize);
+        *count.unwrap_or(&mut self.unknown) += 1;
     }
 
     pub fn total(&self) -> u64 {
@@ -49,7 +51,8 @@ impl Tally {
             .filter(|number| self.of(**number) > 0);
         let missing = missing.map(|number| format!("{name}: {number} never came up"));
         let wrong = wrong.map(|number| format!("{name}: {number} came up, which cannot be"));
-        missing.chain(wrong).collect()
+        let unknown = (self.unknown > 0).then(|| format!("{name}: a number past 17 came up"));
+        missing.chain(wrong).chain(unknown).collect()
     }
 
     /// A line of the numbers, to stand above the tallies.
@@ -90,5 +93,7 @@ mod tests {
             tally.complaints(),
             ["run: 15 came up, which cannot be".to_string()]
         );
+        tally.count(18);
+        assert_eq!(tally.complaints().len(), 2);
     }
 }
