@@ -140,5 +140,3 @@ module _ (t : Table) where
 
     pub mask-top : mask t (top t) ≡ 2 ^ t .n - 1
     mask-top = top-mask g _ top-lt below-top
-
-    -- a principal is known by its mask
