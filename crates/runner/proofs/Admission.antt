@@ -5,22 +5,18 @@ use mathlib.Core.Bool.{Bool, true, false}
 use mathlib.Core.List.{List}
 use native.Mathlib.Omega.{arith}
 use lib.ListN.{getD}
-use lib.Bits.{bitAnd}
 use borrow.Author.Tests.{eq-eqb, ne-eqb}
 use Rattle.lattice.specs.Tests.{_and_, _implies_}
-use Rattle.lattice.specs.Order.{mostPrincipals, bit, meet, top}
-use Rattle.store.specs.declared.Value.{Value}
-use Rattle.store.specs.Result.{ok, require}
+use Rattle.lattice.specs.Order.{mostPrincipals, bit}
 use Rattle.store.specs.Value.{emptySlot}
 use Rattle.store.specs.Sheet.{Tables, ownerOf}
 use Rattle.store.specs.Held.{rowOf}
-use Rattle.programme.specs.Syntax.{literal}
 use Rattle.calculus.specs.Rules.{judgesViews}
-use Rattle.calculus.specs.Calculus.{Setting, Store, Labelled, contents, inRegion, mayHold, admit, fetch, eval}
+use Rattle.calculus.specs.Calculus.{Setting, Store, inRegion, mayHold}
 use Rattle.runner.specs.declared.Terms.{Terms}
-use Rattle.runner.specs.Held.{Grounds, Serves, StoreHeld, ValueHeld, EvaluatedAs, CanJudge}
-use Rattle.runner.proofs.Rows.{row-kind, row-payload, row-owner}
-use Rattle.runner.proofs.Labels.{bit-held, meet-held, owner-few, owner-held}
+use Rattle.runner.specs.Held.{Grounds, Serves, StoreHeld, CanJudge}
+use Rattle.runner.proofs.Rows.{row-owner}
+use Rattle.runner.proofs.Labels.{bit-held, owner-few}
 
 any-implies : (a b : Bool) → true ≡ (a and false implies b)
 unfolding _and_ _implies_

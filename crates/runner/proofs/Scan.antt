@@ -1,12 +1,10 @@
 -- Laws of the search for an expression's literal, byte by byte. Assumes nothing.
-use Prim.Native.Nat.{ℕ, zero, suc, _+_, _*_, _≤_, _<_}
-use mathlib.Core.Path.{_≡_, refl, sym, ap, ap₂, _∙_}
+use Prim.Native.Nat.{ℕ, _+_, _≤_, _<_}
+use mathlib.Core.Path.{_≡_, refl, sym}
 use mathlib.Core.List.{List}
 use native.Mathlib.Omega.{arith}
-use lib.ListN.{length, getD, drop}
-use lib.Seq.{getD-take, getD-drop}
-use Rattle.store.specs.Bytes.{numberAt, part}
-use Rattle.store.specs.Value.{payloadWidth, valueWidth, valueAt}
+use lib.ListN.{length, getD}
+use Rattle.store.specs.Value.{valueWidth}
 use Rattle.programme.specs.Syntax.{Expr, read}
 use Rattle.runner.specs.Layout.{readsOf, ExprAt, ExprIn}
 use Rattle.runner.proofs.Chain.{expr-ends}
@@ -58,18 +56,3 @@ pub literal-in : (code : List ℕ) (at r : ℕ) (x : ExprIn code at) → (r ≡ 
     → (at ≤ r) × (r + 1 + valueWidth ≤ length code)
 literal-in code at r x q =
     let k = expr-ends code (x .expr) at (x .end) (x .stands) in (omega (arith, q .0), omega (arith, q .1, k .within))
-
--- a value's bytes, cut out
-number-part : (width n : ℕ) (s : List ℕ) (at i : ℕ) → i + width ≤ n → numberAt width (part s at n) i ≡ numberAt width s (at + i)
-unfolding numberAt
-number-part zero n s at i h = refl
-number-part (suc width) n s at i h =
-    let q : at + (i + 1) ≡ at + i + 1 = omega arith in
-    ap₂ (λ (a b : ℕ). a + 256 * b) (getD-take n (drop at s) i 0 (omega arith) ∙ getD-drop at s i 0)
-    (number-part width n s at (i + 1) (omega arith) ∙ ap (λ (j : ℕ). numberAt width s j) q)
-
-pub value-part : (s : List ℕ) (at n : ℕ) → n ≡ valueWidth → valueAt (part s at n) 0 ≡ valueAt s at
-unfolding valueAt
-value-part s at n q =
-    ap₂ (λ (k p : ℕ). record { kind = k; payload = p })
-    (getD-take n (drop at s) 0 0 (omega arith) ∙ getD-drop at s 0 0 ∙ ap (λ (j : ℕ). getD s j 0) (omega arith)) (number-part payloadWidth n s at 1 (omega arith))

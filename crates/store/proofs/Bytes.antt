@@ -1,14 +1,15 @@
 -- Laws of numbers, values and slots in bytes: their widths, and that what is written is read back. Assumes nothing.
-use Prim.Native.Nat.{ℕ, zero, suc, _+_, _*_, _/_, _%_, _^_, _<_}
+use Prim.Native.Nat.{ℕ, zero, suc, _+_, _*_, _/_, _%_, _^_, _≤_, _<_}
 use mathlib.Core.Path.{_≡_, refl, ap, ap₂, _∙_}
 use mathlib.Core.List.{List, _∷_}
 use native.Mathlib.Nat.{pow-suc, div-lt-iff-lt-mul}
 use native.Mathlib.Numerals.{add-one}
 use native.Mathlib.Omega.{arith}
-use lib.ListN.{length, getD, length-append}
-use Rattle.store.specs.Bytes.{numberAt, numberBytes}
+use lib.ListN.{length, getD, drop, length-append}
+use lib.Seq.{getD-take, getD-drop}
+use Rattle.store.specs.Bytes.{numberAt, numberBytes, part}
 use Rattle.store.specs.declared.Value.{Value}
-use Rattle.store.specs.Value.{payloadWidth, valueWidth, valueAt, valueBytes, Slot, opened, assigned, emptySlot, slotWidth, slotBytes}
+use Rattle.store.specs.Value.{payloadWidth, valueWidth, valueAt, valueBytes, Slot, emptySlot, slotWidth, slotBytes}
 use Rattle.store.specs.Sheet.{slotsBytes}
 
 pub length-number : (width x : ℕ) → length (numberBytes width x) ≡ width
@@ -49,3 +50,18 @@ unfolding valueAt valueBytes
 value-read v k h =
     ap₂ (λ (x p : ℕ). record { kind = x; payload = p }) (omega arith)
     (shifted (v .kind % 256) payloadWidth (numberBytes payloadWidth (v .payload)) 0 ∙ number-read payloadWidth (v .payload) h)
+
+-- a value's bytes, cut out
+number-part : (width n : ℕ) (s : List ℕ) (at i : ℕ) → i + width ≤ n → numberAt width (part s at n) i ≡ numberAt width s (at + i)
+unfolding numberAt
+number-part zero n s at i h = refl
+number-part (suc width) n s at i h =
+    let q : at + (i + 1) ≡ at + i + 1 = omega arith in
+    ap₂ (λ (a b : ℕ). a + 256 * b) (getD-take n (drop at s) i 0 (omega arith) ∙ getD-drop at s i 0)
+    (number-part width n s at (i + 1) (omega arith) ∙ ap (λ (j : ℕ). numberAt width s j) q)
+
+pub value-part : (s : List ℕ) (at n : ℕ) → n ≡ valueWidth → valueAt (part s at n) 0 ≡ valueAt s at
+unfolding valueAt
+value-part s at n q =
+    ap₂ (λ (k p : ℕ). record { kind = k; payload = p })
+    (getD-take n (drop at s) 0 0 (omega arith) ∙ getD-drop at s 0 0 ∙ ap (λ (j : ℕ). getD s j 0) (omega arith)) (number-part payloadWidth n s at 1 (omega arith))

@@ -2,7 +2,7 @@
 use borrow.Author.Needs.{needs}
 use native.Mathlib.Omega.{arith}
 use Rattle.runner.proofs.Answered.{ruling-passes, ruling-fails, ruling-refused}
-use Rattle.runner.proofs.Moving.{Sizes, sizes, can-judge, guarded, no-while, guard-inside, guard-passes, guard-refused, while-fails, if-fails}
+use Rattle.runner.proofs.Moving.{sizes, can-judge, guarded, no-while, guard-inside, guard-passes, guard-refused, while-fails, if-fails}
 use Rattle.runner.proofs.enter_guarded.Statement.{statement}
 use Rattle.runner.proofs.enter_guarded.Tie as tie
 

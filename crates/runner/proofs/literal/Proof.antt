@@ -4,7 +4,7 @@ use mathlib.Core.Path.{_∙_}
 use denote.Ref.{now}
 use Rattle.store.specs.Value.{valueWidth}
 use native.Mathlib.Omega.{arith}
-use Rattle.runner.proofs.Scan.{value-part}
+use Rattle.store.proofs.Bytes.{value-part}
 use Rattle.runner.proofs.literal.Statement.{statement}
 use Rattle.runner.proofs.literal.Tie as tie
 
