@@ -14,7 +14,7 @@ use Rattle.store.specs.Held.{rowOf}
 use Rattle.calculus.specs.Rules.{judgesViews}
 use Rattle.calculus.specs.Calculus.{Setting, Store, inRegion, mayHold}
 use Rattle.runner.specs.declared.Terms.{Terms}
-use Rattle.runner.specs.Held.{Grounds, Serves, StoreHeld, CanJudge}
+use Rattle.runner.specs.Held.{Serves, StoreHeld, CanJudge}
 use Rattle.runner.proofs.Rows.{row-owner}
 use Rattle.runner.proofs.Labels.{bit-held, owner-few}
 
@@ -25,12 +25,12 @@ any-implies false b = refl
 
 -- the owner that the code reads in a slot's row is a principal
 pub owner-in : (terms : Terms) (masks : List ℕ) (rows : List (List ℕ)) (i : ℕ) (row : List ℕ) → CanJudge terms masks rows
-    → ((w : Tables) (s : Store) → Grounds w → StoreHeld w s rows → row ≡ rowOf (getD s i emptySlot) (ownerOf w i))
+    → ((w : Tables) (s : Store) → StoreHeld w s rows → row ≡ rowOf (getD s i emptySlot) (ownerOf w i))
     → getD row 2 0 < mostPrincipals
 owner-in terms masks rows i row j h =
     let w = j .setting .tables in
     let g = j .serves .grounds in
-    omega (arith, row-owner (getD (j .store) i emptySlot) (ownerOf w i) row (h w (j .store) g (j .held)), owner-few w g i)
+    omega (arith, row-owner (getD (j .store) i emptySlot) (ownerOf w i) row (h w (j .store) (j .held)), owner-few w g i)
 
 -- the region may hold what is no write view
 pub no-view : (w : Setting) (k p : ℕ) → (k ≡ 3 → ⊥) → true ≡ mayHold w (record { kind = k; payload = p })

@@ -1,5 +1,5 @@
 -- Laws of guards and assignments, as the code finds their answers. Assumes nothing.
-use Prim.Native.Nat.{ℕ}
+use Prim.Native.Nat.{ℕ, _<_}
 use mathlib.Core.Path.{_≡_, refl, sym, _∙_}
 use mathlib.Core.Bool.{Bool, true, false, true≢false, false≢true}
 use mathlib.Core.List.{List, [], _∷_}
@@ -10,7 +10,7 @@ use Rattle.lattice.specs.Tests.{_and_, _or_, _implies_}
 use Rattle.lattice.specs.Order.{Label, bit}
 use Rattle.lattice.proofs.Bits.{bit-and}
 use Rattle.store.specs.Result.{Result, ok, refuse, _>>=_, require}
-use Rattle.store.specs.Sheet.{ownerOf}
+use Rattle.store.specs.Sheet.{ownerOf, mostSlots}
 use Rattle.programme.specs.Syntax.{Expr}
 use Rattle.calculus.specs.Rules.{RuleSet, accessControl, capability, explicitProvenance, fullProvenance, labelsJudged, allAbove}
 use Rattle.calculus.specs.Calculus.{Setting, Store, Labelled, Write, authorised, reliable, eval, judge, permit, assignment}
@@ -120,11 +120,11 @@ module _ (w : Setting) (x y : Labelled) (b : Label) (i : ℕ) (q : x .value .pay
   unfolding permit require
   permit-16 a n = rw (q, a, n) MadeAs.refuses
 
-  pub permit-writes : (k p l o : ℕ) → ValueHeld (w .tables .order) y k p l → ownerOf (w .tables) i ≡ o
+  pub permit-writes : i < mostSlots → (k p l o : ℕ) → ValueHeld (w .tables .order) y k p l → ownerOf (w .tables) i ≡ o
       → authorised w i ≡ true → reliable w i (labelsJudged (w .rules) (x .label) (y .label) b) ≡ true
       → MadeAs (w .tables) (Making.Write i k p o) (permit w b x y)
   unfolding permit require
-  permit-writes k p l o s u a n = rw (q, a, n) (MadeAs.writes refl (s .kind) (s .payload) u)
+  permit-writes h k p l o s u a n = rw (q, a, n) (MadeAs.writes h (s .named) refl (s .kind) (s .payload) u)
 
 -- a guard: its expression is refused, its kind is wrong, it passes, it fails
 module _ (w : Setting) (s : Store) (g : Expr) where

@@ -11,13 +11,13 @@ use Rattle.lattice.specs.declared.Table.{Table}
 use Rattle.lattice.specs.Order.{Label}
 use Rattle.store.specs.Result.{Result, ok, refuse}
 use Rattle.store.specs.Value.{valueWidth}
-use Rattle.store.specs.Sheet.{Tables, ownerOf}
+use Rattle.store.specs.Sheet.{Tables, ownerOf, mostSlots}
 use Rattle.programme.specs.Syntax.{Expr, Cmd}
 use Rattle.calculus.specs.Calculus.{Setting, Store, State, Stop, Judged, Write, judge, assignment, counted, written, performed, step}
 use Rattle.runner.specs.Answers.{Ruling, Making, Control}
 use Rattle.runner.specs.declared.Terms.{Terms}
 use Rattle.runner.specs.Layout.{readsOf, ExprAt, ExprIn, TwoExprs, CmdAt}
-use Rattle.runner.specs.Held.{LabelHeld, Grounds, Serves, StoreHeld, JudgedAs, MadeAs, CanJudge, unspent}
+use Rattle.runner.specs.Held.{Named, LabelHeld, Serves, StoreHeld, JudgedAs, MadeAs, CanJudge, unspent}
 use Rattle.runner.specs.Moves.{StateHeld, EntersAs, LeavesAs, StopsAs, Moves, Entered, CanEnter}
 use Rattle.runner.proofs.Stack.{head-bounds}
 use Rattle.runner.proofs.Entering.{step-made, step-forbidden, step-early, entered-bounds, at-assign, at-if, at-while, enter-skip, enter-seq, enter-chosen, enter-other, enter-body, pass-while, pass-assign, stop-assign, stop-if, stop-while}
@@ -42,13 +42,15 @@ forbidden JudgedAs.refuses = refl
 record Written (w : Tables) (i k p o : ℕ) (r : Result ℕ Write) : Type 0 where
   pub write : Write
   pub answer : r ≡ ok write
+  pub inside : i < mostSlots
+  pub named : Named k p
   pub slot : write .slot ≡ i
   pub kind : write .value .kind ≡ k
   pub payload : write .value .payload ≡ p
   pub owner : ownerOf w i ≡ o
 
 made : {w : Tables} {i k p o : ℕ} {r : Result ℕ Write} → MadeAs w (Making.Write i k p o) r → Written w i k p o r
-made (MadeAs.writes {x = x} a b c d) = record { write = x; answer = refl; slot = a; kind = b; payload = c; owner = d }
+made (MadeAs.writes {x = x} l n a b c d) = record { write = x; answer = refl; inside = l; named = n; slot = a; kind = b; payload = c; owner = d }
 
 unmade : {w : Tables} {n : ℕ} {r : Result ℕ Write} → MadeAs w (Making.Refused n) r → r ≡ refuse n
 unmade MadeAs.refuses = refl
@@ -69,7 +71,7 @@ Assigns t masks code rows at branch steps r =
 
 abbrev pub Puts : List (List ℕ) → List (List ℕ) → ℕ → ℕ → ℕ → ℕ → Type 0
 Puts rows rows′ i k p o =
-    (w : Tables) (s : Store) (x : Write) → Grounds w → StoreHeld w s rows → x .slot ≡ i → x .value .kind ≡ k → x .value .payload ≡ p
+    (w : Tables) (s : Store) (x : Write) → StoreHeld w s rows → Named k p → x .slot ≡ i → x .value .kind ≡ k → x .value .payload ≡ p
     → ownerOf w i ≡ o → StoreHeld w (written x s) rows′
 
 ticked : {w : Setting} {rows : List (List ℕ)} {n : ℕ} {s : State} → StateHeld w rows n s → StateHeld w rows (n + 1) (counted s)
@@ -188,6 +190,9 @@ module _ {w : Setting} {t : Terms} {masks code ends : List ℕ} {frames rows : L
         let y = made (settled f) in
         omega (arith, step-early w at (e .state) _ (y .write) (y .answer) (e .enters .kept), e .held .steps, h .budget)
 
+    assign-inside : {i k p o : ℕ} → Assigns t masks code rows (at + 1) x steps (Making.Write i k p o) → i < mostSlots
+    assign-inside f = made (settled f) .inside
+
     assign-passed : {i k p o : ℕ} {rows′ : List (List ℕ)} → Assigns t masks code rows (at + 1) x steps (Making.Write i k p o)
         → Puts rows rows′ i k p o
         → LeavesAs w code ends frames rows′ (t .top) (getD ends at 0) depth (steps + 1) whole
@@ -197,7 +202,7 @@ module _ {w : Setting} {t : Terms} {masks code ends : List ℕ} {frames rows : L
         record {
           state = performed (y .write) (e .state);
           held = record {
-            store = put (w .tables) (e .state .store) (y .write) (h .grounds) (e .held .store) (y .slot) (y .kind) (y .payload) (y .owner);
+            store = put (w .tables) (e .state .store) (y .write) (e .held .store) (y .named) (y .slot) (y .kind) (y .payload) (y .owner);
             steps = ap (λ (n : ℕ). n + 1) (e .held .steps);
           };
           leaves = pass-assign (e .enters) q (y .write) (step-early w at (e .state) _ (y .write) (y .answer) (e .enters .kept))
@@ -249,6 +254,9 @@ module _ {t : Terms} {masks code ends : List ℕ} {frames rows : List (List ℕ)
       write-early : steps < t .budget
       write-early = assign-early (c .serves) (c .enters) q f
 
+      pub write-inside : i < mostSlots
+      write-inside = assign-inside (c .serves) (c .enters) q f
+
       pub assign-writes : {rows′ : List (List ℕ)} → Puts rows rows′ i k p o
           → Entered t masks code ends frames frames rows rows′ at depth x steps (Control.Leave (getD ends at 0) depth (steps + 1))
       unfolding Moves
@@ -269,12 +277,12 @@ module _ {t : Terms} {masks code ends : List ℕ} {frames rows : List (List ℕ)
     if-guard = let a = at-if (c .enters .enters) q in record { expr = a .guard; end = a .part; stands = a .judged }
 
     module _ {inner : ℕ} (lit : Literal code (at + 1) inner) where
-      -- the literal stands in the guard, and the first part after it, inside the code
-      pub if-inside : (at + 1 ≤ inner) × (inner + 1 + valueWidth < length code)
+      -- the first part stands after the guard, inside the code
+      if-inside : inner + 1 + valueWidth < length code
       if-inside =
           let a = at-if (c .enters .enters) q in
           let y = lit (a .guard) (a .part) (a .judged) in
-          (omega arith, omega (arith, head-bounds (a .first)))
+          omega (arith, head-bounds (a .first))
 
       module _ {l : ℕ} (f : Guard t masks code rows (at + 1) inner steps (Ruling.Passes l)) where
         chosen-early : steps < t .budget
@@ -307,11 +315,11 @@ module _ {t : Terms} {masks code ends : List ℕ} {frames rows : List (List ℕ)
     while-guard = let a = at-while (c .enters .enters) q in record { expr = a .guard; end = a .part; stands = a .judged }
 
     module _ {inner : ℕ} (lit : Literal code (at + 1) inner) where
-      pub while-inside : (at + 1 ≤ inner) × (inner + 1 + valueWidth < length code)
+      while-inside : inner + 1 + valueWidth < length code
       while-inside =
           let a = at-while (c .enters .enters) q in
           let y = lit (a .guard) (a .part) (a .judged) in
-          (omega arith, omega (arith, head-bounds (a .inner)))
+          omega (arith, head-bounds (a .inner))
 
       module _ {l : ℕ} (f : Guard t masks code rows (at + 1) inner steps (Ruling.Passes l)) where
         body-early : steps < t .budget
@@ -379,7 +387,7 @@ module _ {t : Terms} {masks code ends : List ℕ} {frames rows : List (List ℕ)
     no-while n = ⊎-elim (λ y. y) (λ y. absurd (n y)) q
 
     module _ {inner : ℕ} (lit : Literal code (at + 1) inner) where
-      pub guard-inside : (at + 1 ≤ inner) × (inner + 1 + valueWidth < length code)
+      pub guard-inside : inner + 1 + valueWidth < length code
       guard-inside = ⊎-elim (λ y. if-inside y lit) (λ y. while-inside y lit) q
 
       pub guard-passes : {l : ℕ} → Guard t masks code rows (at + 1) inner steps (Ruling.Passes l)

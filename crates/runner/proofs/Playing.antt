@@ -9,7 +9,7 @@ use Rattle.lattice.specs.Order.{mostPrincipals, top}
 use Rattle.lattice.proofs.Order.{good-at, top-lt, mask-top}
 use Rattle.store.specs.declared.Answer.{Answer}
 use Rattle.store.specs.Result.{Result, ok, refuse, _>>=_, refusedAs}
-use Rattle.store.specs.Sheet.{Tables}
+use Rattle.store.specs.Sheet.{Tables, mostSlots}
 use Rattle.store.proofs.Result.{post-at}
 use Rattle.programme.specs.declared.Header.{Header}
 use Rattle.programme.specs.Syntax.{Cmd}
@@ -67,13 +67,13 @@ pub record Ready (code ends : List ℕ) (c : Cmd) : Type 0 where
   pub stands : CmdAt code ends c 0 (length code) 0
   pub room : length ends ≡ mostCode
 
-pub block-ready : (slots : ℕ) (code old new : List ℕ) (c : Cmd) → readBlock slots code ≡ ok c → length code ≤ mostCode → length old ≡ mostCode
+pub block-ready : (slots : ℕ) (code old new : List ℕ) (c : Cmd) → readBlock slots code ≡ ok c → slots ≤ mostSlots → length code ≤ mostCode → length old ≡ mostCode
     → BlockMarked (blockRead slots code) old new → Ready code new c
 unfolding BlockMarked
-block-ready slots code old new c r short room m =
+block-ready slots code old new c r few short room m =
     let m′ : BlockMarked (readBlock slots code) old new = rw (block-read slots code short) at m in
     record {
-      stands = post-at _ _ _ _ (block-stands slots code) r new (block-held slots code old new c r m′ (omega arith) .0);
+      stands = post-at _ _ _ _ (block-stands slots few code) r new (block-held slots code old new c r m′ (omega arith) .0);
       room = ap length (rw r at m′) ∙ marks-length c old ∙ room;
     }
 
@@ -198,6 +198,7 @@ module _ {p : List ℕ} {k i begin l : ℕ} (z : Stands p k i begin l) (h : Head
         command = n .command;
         reads = rw (part-is z) (n .reads);
         short = rw (part-is z) (part-short z);
+        few = c .plays .few;
         room = c .room;
       }
 

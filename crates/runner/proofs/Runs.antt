@@ -32,6 +32,7 @@ use Rattle.runner.specs.declared.Ended.the-variants as e
 use Rattle.runner.specs.Held.{judgesLabels, judgesBranch, StoreHeld}
 use Rattle.runner.specs.Playing.{judgesOf, Plays, CanPlayAll, EndedAs, finished, halted, OpeningHeld, CanStart, CanFinish}
 use Rattle.programme.proofs.Refusals.{programme-refuses}
+use Rattle.runner.proofs.Standing.{named}
 use Rattle.runner.proofs.Playing.{next-block}
 
 -- a programme sheet that is taken in
@@ -75,8 +76,8 @@ opening-held s o t old rows e p q =
     let x = post-at _ _ _ _ (store-opens s) e in
     record {
       opened = p ∙ ap openedOf e;
-      grounds = record { order = x .ordered .table; owners = x .ordered .owners; past = x .past };
-      held = record { size = x .sized; same = q ∙ ap (λ (r : Result ℕ Opening). heldAfter r old) e };
+      grounds = record { order = x .ordered .table; owners = x .ordered .owners };
+      held = record { size = x .sized; same = q ∙ ap (λ (r : Result ℕ Opening). heldAfter r old) e; named = λ i. named _ _ (x .small) (x .formed i) };
       small = x .small;
     }
 
@@ -150,7 +151,7 @@ can-play o t rows j rules budget p k bs h e m r q =
     let order : t .table ≡ o .tables .order = ap (λ (y : Opened). y .table) (h .opened) in
     rw (q, slots, order)
     (record {
-      plays = record { grounds = h .grounds; order = refl; count = refl; judges = e; modest = m; lengths = x .lengths; headers = x .headers };
+      plays = record { grounds = h .grounds; order = refl; count = refl; few = h .small; judges = e; modest = m; lengths = x .lengths; headers = x .headers };
       reads = x .reads;
       count = blocks-count _ p (kOf p) 0 bs (x .reads);
     })

@@ -6,7 +6,7 @@ use native.Mathlib.Omega.{arith}
 use lib.ListN.{length, getD}
 use Rattle.store.specs.Value.{valueWidth}
 use Rattle.programme.specs.Syntax.{Expr, read}
-use Rattle.runner.specs.Layout.{readsOf, ExprAt, ExprIn}
+use Rattle.runner.specs.Layout.{readsOf, ExprAt, ExprIn, ExprTo}
 use Rattle.runner.proofs.Chain.{expr-ends}
 
 -- what is left of an expression from `here` on
@@ -30,7 +30,7 @@ scan-start code at x = record { some = x; every = λ e end s. record { inner = e
 step : (code : List ℕ) (at here end : ℕ) (e i : Expr) → ExprAt code i here end → here + readsOf i ≡ at + readsOf e
     → getD code here 0 ≡ 0x11 → Left code e at (here + 1) end
 unfolding readsOf
-step code at here end e i (ExprAt.isLiteral b v q h) r y = absurd (omega (arith, b))
+step code at here end e i (ExprAt.isLiteral b v k q h) r y = absurd (omega (arith, b))
 step code at here end e (read i) (ExprAt.isRead b x) r y = record { inner = i; stands = x; reads = omega arith }
 
 pub scan-next : (code : List ℕ) (at here : ℕ) → Scanned code at here → getD code here 0 ≡ 0x11 → Scanned code at (here + 1)
@@ -44,15 +44,14 @@ scan-next code at here c y =
 stop : (code : List ℕ) (at here end : ℕ) (e i : Expr) → ExprAt code i here end → here + readsOf i ≡ at + readsOf e
     → (getD code here 0 ≡ 0x11 → ⊥) → (here ≡ at + readsOf e) × (here + 1 + valueWidth ≡ end)
 unfolding readsOf
-stop code at here end e i (ExprAt.isLiteral b v q h) r n = (omega arith, sym q)
+stop code at here end e i (ExprAt.isLiteral b v k q h) r n = (omega arith, sym q)
 stop code at here end e i (ExprAt.isRead b x) r n = absurd (n b)
 
 pub scan-end : (code : List ℕ) (at here : ℕ) → Scanned code at here → (getD code here 0 ≡ 0x11 → ⊥)
     → (e : Expr) (end : ℕ) → ExprAt code e at end → (here ≡ at + readsOf e) × (here + 1 + valueWidth ≡ end)
 scan-end code at here c n e end s = let l = c .every e end s in stop code at here end e (l .inner) (l .stands) (l .reads) n
 
--- a literal that was found stands inside the code
-pub literal-in : (code : List ℕ) (at r : ℕ) (x : ExprIn code at) → (r ≡ at + readsOf (x .expr)) × (r + 1 + valueWidth ≡ x .end)
-    → (at ≤ r) × (r + 1 + valueWidth ≤ length code)
-literal-in code at r x q =
-    let k = expr-ends code (x .expr) at (x .end) (x .stands) in (omega (arith, q .0), omega (arith, q .1, k .within))
+-- a literal that was found
+pub found : (code : List ℕ) (at r : ℕ) (x : ExprIn code at)
+    → ((e : Expr) (end : ℕ) → ExprAt code e at end → (r ≡ at + readsOf e) × (r + 1 + valueWidth ≡ end)) → ExprTo code at r
+found code at r x h = record { some = x; reads = h (x .expr) (x .end) (x .stands) .0 }

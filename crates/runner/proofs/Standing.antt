@@ -9,12 +9,15 @@ use lib.Dec.{ltb, leb, eqb}
 use borrow.Author.Tests.{leb-true, eqb-true}
 use Rattle.store.specs.declared.Value.{Value}
 use Rattle.store.specs.Result.{Result, ok, refuse}
-use Rattle.store.specs.Value.{valueWidth, valueAt}
+use Rattle.store.specs.Value.{valueWidth, wellFormed, valueAt}
+use Rattle.store.specs.Sheet.{mostSlots}
+use Rattle.store.proofs.Bytes.{read-inside, write-inside}
 use Rattle.store.proofs.Result.{Post, Any, post-ok, post-refuse, post-map, post-require, post-bind}
 use Rattle.programme.specs.Syntax.{Expr, Cmd, cmd, Body, seq, Cmds, nil, cons}
 use Rattle.programme.specs.Code.{Fault, Read, readValue, ExprByte, literalByte, readByte, exprByte, exprBy, readExpr, mostReads, CmdByte, skipByte, assignByte, seqByte, ifByte, whileByte, sorted, cmdByte, readCmds, readAssign, readSeq, readIf, readWhile, bodyBy, bodyTooDeep, readBody, readCmd, mostDeep, readBlock}
 use Rattle.programme.proofs.Laid.{Laid, laid-lt, cmd-laid}
 use Rattle.programme.proofs.Held.{Holds, HoldsBody, HoldsAll}
+use Rattle.runner.specs.Held.{Named}
 use Rattle.runner.specs.Layout.{ExprAt, isLiteral, isRead, Head, size, CmdAt, isSkip, isAssign, isSeq, isIf, isWhile, CmdsAt, none, more}
 
 -- what a byte that was sorted is
@@ -82,16 +85,21 @@ unfolding Post
 post-both P P′ Q Q′ (ok a) p q = (p, q)
 post-both P P′ Q Q′ (refuse e) p q = tt
 
-module _ (m : ℕ) (s : List ℕ) where
+-- a well-formed view names a slot that is held
+pub named : (m : ℕ) (v : Value) → m ≤ mostSlots → wellFormed m v ≡ true → Named (v .kind) (v .payload)
+named m v few h =
+    record { reads = λ k. omega (arith, read-inside m v h k); writes = λ k. omega (arith, write-inside m v h k) }
+
+module _ (m : ℕ) (few : m ≤ mostSlots) (s : List ℕ) where
   abbrev ValueStands : ℕ → Read Value → Type 0
-  ValueStands at r = (r .tree ≡ valueAt s at) × (r .next ≡ at + valueWidth) × (r .next ≤ length s)
+  ValueStands at r = (r .tree ≡ valueAt s at) × Named (r .tree .kind) (r .tree .payload) × (r .next ≡ at + valueWidth) × (r .next ≤ length s)
 
   value-stands : (at : ℕ) → Post (ValueStands at) Any (readValue m s at)
   unfolding readValue
   value-stands at =
       post-require _ _ _ _ _
       (λ _. post-require _ _ _ _ _
-      (λ _. post-require _ _ _ _ _ (λ w. post-require _ _ _ _ _ (λ _. post-ok _ _ _ (refl, refl, leb-true _ _ w)) (λ _. tt)) (λ _. tt))
+      (λ _. post-require _ _ _ _ _ (λ w. post-require _ _ _ _ _ (λ g. post-ok _ _ _ (refl, named m _ few g, refl, leb-true _ _ w)) (λ _. tt)) (λ _. tt))
       (λ _. tt))
       (λ _. tt)
 
@@ -101,7 +109,7 @@ module _ (m : ℕ) (s : List ℕ) where
   expr-by : (at : ℕ) (y : ExprByte) → ExprSorted (getD s at 0) y → (inner : ℕ → Result Fault (Read Expr))
       → Post (ExprStands (at + 1)) Any (inner at) → Post (ExprStands at) Any (exprBy y inner m s at)
   unfolding exprBy
-  expr-by at y (is10 b) inner h = post-bind _ _ _ _ _ (value-stands (at + 1)) (λ v p. post-ok _ _ _ (isLiteral b (p .0) (p .1) (p .2)))
+  expr-by at y (is10 b) inner h = post-bind _ _ _ _ _ (value-stands (at + 1)) (λ v p. post-ok _ _ _ (isLiteral b (p .0) (p .1) (p .2) (p .3)))
   expr-by at y (is11 b) inner h = post-bind _ _ _ _ _ h (λ e p. post-ok _ _ _ (isRead b p))
   expr-by at y unknown inner h = post-refuse _ _ _ tt
   expr-by at y nothing inner h = post-refuse _ _ _ tt
@@ -132,7 +140,7 @@ BodyStands s depth at r =
 abbrev CmdsStand : List ℕ → ℕ → ℕ → ℕ → Read Cmds → Type 0
 CmdsStand s depth n at r = (size (r .tree) ≡ n) × ((ends : List ℕ) → HoldsAll (r .tree) ends → CmdsAt s ends (r .tree) at (r .next) depth)
 
-module _ (m : ℕ) (s : List ℕ) (depth : ℕ) (f : ℕ → Result Fault (Read Cmd)) (inner : (p : ℕ) → Post (CmdStands s (depth + 1) p) Any (f p)) where
+module _ (m : ℕ) (few : m ≤ mostSlots) (s : List ℕ) (depth : ℕ) (f : ℕ → Result Fault (Read Cmd)) (inner : (p : ℕ) → Post (CmdStands s (depth + 1) p) Any (f p)) where
   cmds-stand : (n p : ℕ) → Post (CmdsStand s (depth + 1) n p) Any (readCmds f n p)
   unfolding readCmds size HoldsAll
   cmds-stand zero p = post-ok _ _ _ (refl, λ ends h. none refl)
@@ -156,19 +164,19 @@ module _ (m : ℕ) (s : List ℕ) (depth : ℕ) (f : ℕ → Result Fault (Read 
   unfolding bodyBy readAssign readSeq readIf readWhile HoldsBody
   body-by at y (is20 b) = post-ok _ _ _ (λ ends h pl. isSkip refl (head b pl) refl)
   body-by at y (is21 b) =
-      post-bind _ _ _ _ _ (expr-stands m s mostReads (at + 1))
-      (λ x p. post-bind _ _ _ _ _ (expr-stands m s mostReads (x .next)) (λ v q. post-ok _ _ _ (λ ends h pl. isAssign refl (head b pl) p q)))
+      post-bind _ _ _ _ _ (expr-stands m few s mostReads (at + 1))
+      (λ x p. post-bind _ _ _ _ _ (expr-stands m few s mostReads (x .next)) (λ v q. post-ok _ _ _ (λ ends h pl. isAssign refl (head b pl) p q)))
   body-by at y (is22 b) =
       post-require _ _ _ _ _
       (λ _. post-require _ _ _ _ _
       (λ two. post-bind _ _ _ _ _ (cmds-stand (getD s (at + 1) 0) (at + 2)) (λ cs j. post-ok _ _ _ (seq-stands at b two cs j))) (λ _. tt))
       (λ _. tt)
   body-by at y (is23 b) =
-      post-bind _ _ _ _ _ (expr-stands m s mostReads (at + 1))
+      post-bind _ _ _ _ _ (expr-stands m few s mostReads (at + 1))
       (λ g p. post-bind _ _ _ _ _ (inner (g .next))
       (λ c i. post-bind _ _ _ _ _ (inner (c .next)) (λ d j. post-ok _ _ _ (λ ends h pl. isIf refl (head b pl) p (i ends (h .0)) (j ends (h .1))))))
   body-by at y (is24 b) =
-      post-bind _ _ _ _ _ (expr-stands m s mostReads (at + 1))
+      post-bind _ _ _ _ _ (expr-stands m few s mostReads (at + 1))
       (λ g p. post-bind _ _ _ _ _ (inner (g .next)) (λ c i. post-ok _ _ _ (λ ends h pl. isWhile refl (head b pl) p (i ends h))))
   body-by at y unknown = post-refuse _ _ _ tt
   body-by at y nothing = post-refuse _ _ _ tt
@@ -201,16 +209,16 @@ placed-stands m s deep depth at level h =
     (λ r p ends k. p .0 ends k (record { early = laid-lt (r .tree) at (r .next) (p .1 .1); within = p .1 .0; ended = holds-end (r .tree) at (r .next) ends (p .1 .1) k; level = level }))
     (λ _ _. tt)
 
-cmd-stands : (m : ℕ) (s : List ℕ) (deep depth at : ℕ) → deep + depth ≡ mostDeep → Post (CmdStands s depth at) Any (readCmd deep m s at)
+cmd-stands : (m : ℕ) → m ≤ mostSlots → (s : List ℕ) (deep depth at : ℕ) → deep + depth ≡ mostDeep → Post (CmdStands s depth at) Any (readCmd deep m s at)
 unfolding readBody
-cmd-stands m s zero depth at h = post-bind (λ _. ⊥) _ _ _ _ (body-deep (λ _. ⊥) s at (cmdByte s at)) (λ b x. absurd x)
-cmd-stands m s (suc deep) depth at h =
+cmd-stands m few s zero depth at h = post-bind (λ _. ⊥) _ _ _ _ (body-deep (λ _. ⊥) s at (cmdByte s at)) (λ b x. absurd x)
+cmd-stands m few s (suc deep) depth at h =
     placed-stands m s (suc deep) depth at (omega arith)
-    (body-by m s depth _ (λ p. cmd-stands m s deep (depth + 1) p (omega arith)) at _ (cmd-sorted s at))
+    (body-by m few s depth _ (λ p. cmd-stands m few s deep (depth + 1) p (omega arith)) at _ (cmd-sorted s at))
 
 -- a block that was read fills its code
-pub block-stands : (m : ℕ) (s : List ℕ) → Post (λ (c : Cmd). (ends : List ℕ) → Holds c ends → CmdAt s ends c 0 (length s) 0) Any (readBlock m s)
+pub block-stands : (m : ℕ) → m ≤ mostSlots → (s : List ℕ) → Post (λ (c : Cmd). (ends : List ℕ) → Holds c ends → CmdAt s ends c 0 (length s) 0) Any (readBlock m s)
 unfolding readBlock
-block-stands m s =
-    post-bind (CmdStands s 0 0) _ _ _ _ (cmd-stands m s mostDeep 0 0 (omega arith))
+block-stands m few s =
+    post-bind (CmdStands s 0 0) _ _ _ _ (cmd-stands m few s mostDeep 0 0 (omega arith))
     (λ c h. post-require _ _ _ _ _ (λ e. post-ok _ _ _ (λ ends k. rw (eqb-true (c .next) (length s) e) at (h ends k))) (λ _. tt))

@@ -7,6 +7,7 @@ use Rattle.store.specs.declared.Value.{Value}
 use Rattle.store.specs.Value.{valueWidth, valueAt}
 use Rattle.programme.specs.Syntax.{Expr, literal, read, Cmd, cmd, skip, assign, seq, if, while, Cmds, nil, cons}
 use Rattle.programme.specs.Code.{mostDeep}
+use Rattle.runner.specs.Held.{Named}
 
 -- how many reads stand around an expression's literal
 unfoldable pub readsOf : Expr → ℕ
@@ -15,15 +16,21 @@ readsOf (read e) = readsOf e + 1
 
 -- the expression stands from `at` up to `end`
 pub data ExprAt (code : List ℕ) : Expr → ℕ → ℕ → Type 0 where
-  isLiteral : {v : Value} {at end : ℕ} → getD code at 0 ≡ 0x10 → v ≡ valueAt code (at + 1) → end ≡ at + 1 + valueWidth → end ≤ length code → ExprAt code (literal v) at end
+  isLiteral : {v : Value} {at end : ℕ} → getD code at 0 ≡ 0x10 → v ≡ valueAt code (at + 1) → Named (v .kind) (v .payload) → end ≡ at + 1 + valueWidth → end ≤ length code → ExprAt code (literal v) at end
   isRead : {e : Expr} {at end : ℕ} → getD code at 0 ≡ 0x11 → ExprAt code e (at + 1) end → ExprAt code (read e) at end
 
--- some expression stands at `at`; two do, one after the other
+-- some expression stands at `at`
 pub record ExprIn (code : List ℕ) (at : ℕ) : Type 0 where
   pub expr : Expr
   pub end : ℕ
   pub stands : ExprAt code expr at end
 
+-- some expression stands at `at`, its literal at `inner`
+pub record ExprTo (code : List ℕ) (at inner : ℕ) : Type 0 where
+  pub some : ExprIn code at
+  pub reads : inner ≡ at + readsOf (some .expr)
+
+-- two stand one after the other
 pub record TwoExprs (code : List ℕ) (at : ℕ) : Type 0 where
   pub first : ExprIn code at
   pub second : ExprIn code (first .end)

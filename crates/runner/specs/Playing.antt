@@ -51,6 +51,7 @@ pub record CanPlay (code : List ℕ) (h : Header) (slots : ℕ) (ends : List ℕ
   pub command : Cmd
   pub reads : readBlock slots code ≡ ok command
   pub short : length code ≤ mostCode
+  pub few : slots ≤ mostSlots
   pub room : length ends ≡ mostCode
 
 -- a programme that was judged, and what it is played under
@@ -58,6 +59,7 @@ pub record Plays (w : Tables) (rules : RuleSet) (budget : ℕ) (p : List ℕ) (k
   pub grounds : Grounds w
   pub order : w .order ≡ t
   pub count : slots ≡ w .slots
+  pub few : slots ≤ mostSlots
   pub judges : j ≡ judgesOf (ok rules)
   pub modest : budget ≤ mostBudget
   pub lengths : GoodLengths p k

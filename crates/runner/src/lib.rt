@@ -7,13 +7,13 @@ ghost use Prim.Native.Nat.{ℕ, _+_, _*_, _≤_, _<_};
 ghost use lib.ListN.{length, getD, set};
 ghost use Rattle.lattice.specs.Order.{Label, bit, top, mostPrincipals};
 ghost use Rattle.store.specs.Value.{emptySlot, valueAt, valueWidth, slotWidth};
-ghost use Rattle.store.specs.Sheet.{Tables, ownerOf, Opening};
+ghost use Rattle.store.specs.Sheet.{Tables, ownerOf, Opening, mostSlots};
 ghost use Rattle.store.specs.Held.{rowOf};
 ghost use Rattle.programme.specs.Syntax.{Expr, literal, Cmd};
 ghost use Rattle.calculus.specs.Rules.{labelsJudged, RuleSet, rulesOf};
 ghost use Rattle.calculus.specs.Calculus.{Setting, Store, Labelled, State, Write, mayHold, fetch, eval, judge, permit, assignment, reliable, written, exec};
-ghost use Rattle.runner.specs.Layout.{ExprAt, ExprIn, TwoExprs, CmdAt, readsOf};
-ghost use Rattle.runner.specs.Held.{LabelHeld, Grounds, Serves, StoreHeld, ValueHeld, EvaluatedAs, JudgedAs, MadeAs, CanJudge, unspent};
+ghost use Rattle.runner.specs.Layout.{ExprAt, ExprIn, ExprTo, TwoExprs, CmdAt, readsOf};
+ghost use Rattle.runner.specs.Held.{Named, LabelHeld, Serves, StoreHeld, ValueHeld, EvaluatedAs, JudgedAs, MadeAs, CanJudge, unspent};
 ghost use Rattle.runner.specs.Answers.{Got, got, Ruling, ruling, Making, making, Control, control};
 ghost use Rattle.runner.specs.Moves.{labelIn, StateHeld, RanAs, Entered, Left, CanEnter, CanGoOn, CanRun};
 ghost use Rattle.store.specs.Result.{Result, ok, unplaced};
@@ -127,16 +127,13 @@ fn wide(x: u8) -> u64
     x as u64
 }
 
-// Slot i's row; past the last slot the row of an empty slot.
+// A slot's row.
 fn row_of(held: &[[u64; 3]; 256], slot: u64) -> [u64; 3]
-    ensures { λ r. ⌜ ((w : Tables) (s : Store) → Grounds w → StoreHeld w s (now (held .entry)) → r ≡ rowOf (getD s slot emptySlot) (ownerOf w slot)) ⌝ }
+    requires { ⌜ slot < mostSlots ⌝ }
+    ensures { λ r. ⌜ ((w : Tables) (s : Store) → StoreHeld w s (now (held .entry)) → r ≡ rowOf (getD s slot emptySlot) (ownerOf w slot)) ⌝ }
 {
-    if slot < 256 {
-        let i = slot as usize;
-        held[i]
-    } else {
-        [0, 0, 0]
-    }
+    let i = slot as usize;
+    held[i]
 }
 
 // Whether the principal `owner` stands at or below the label.
@@ -156,7 +153,7 @@ fn admitted(
     kind: u64,
     payload: u64,
 ) -> bool
-    requires { ⌜ CanJudge terms (now masks) (now held) ⌝ }
+    requires { ⌜ CanJudge terms (now masks) (now held) × Named kind payload ⌝ }
     ensures { λ r. ⌜ ((w : Setting) (s : Store) → Serves w terms (now (masks .entry)) → StoreHeld (w .tables) s (now (held .entry)) → r ≡ mayHold w (record { kind = kind; payload = payload })) ⌝ }
 {
     let views = terms.views;
@@ -215,19 +212,19 @@ fn eval(
     at: usize,
     inner: usize,
 ) -> Evaluated
-    requires { ⌜ CanJudge terms (now masks) (now held) × (at ≤ inner) × (inner + 1 + valueWidth ≤ length (now code)) ⌝ }
+    requires { ⌜ CanJudge terms (now masks) (now held) × ExprTo (now code) at inner ⌝ }
     ensures { λ r. ⌜ ((w : Setting) (s : Store) (e : Expr) (end : ℕ) → Serves w terms (now (masks .entry)) → StoreHeld (w .tables) s (now (held .entry)) → ExprAt (now (code .entry)) e at end → inner ≡ at + readsOf e → EvaluatedAs (w .tables .order) (got r) (eval w s e)) ⌝ }
 {
     let v = literal(code, inner);
     let mut kind = wide(v.kind);
     let mut payload = v.payload;
     let mut label = terms.top;
-    let mut left = inner - at;
+    let mut here = inner;
     loop {
         if !admitted(held, masks, terms, kind, payload) {
             return refused_value(15);
         }
-        if left == 0 {
+        if here == at {
             return Evaluated {
                 kind,
                 refusal: 0,
@@ -244,7 +241,7 @@ fn eval(
         kind = row[0];
         payload = row[1];
         label = label & mask;
-        left -= 1;
+        here -= 1;
     }
 }
 
@@ -269,7 +266,7 @@ fn judge(
     inner: usize,
     steps: u32,
 ) -> Verdict
-    requires { ⌜ CanJudge terms (now masks) (now held) × (at ≤ inner) × (inner + 1 + valueWidth ≤ length (now code)) ⌝ }
+    requires { ⌜ CanJudge terms (now masks) (now held) × ExprTo (now code) at inner ⌝ }
     ensures { λ r. ⌜ ((w : Setting) (s : Store) (g : Expr) (end : ℕ) → Serves w terms (now (masks .entry)) → StoreHeld (w .tables) s (now (held .entry)) → ExprAt (now (code .entry)) g at end → inner ≡ at + readsOf g → JudgedAs (w .tables .order) (ruling r) (unspent w steps (judge w s g))) ⌝ }
 {
     let budget = terms.budget;
@@ -339,7 +336,7 @@ fn permit(
     value: u32,
     branch: u32,
 ) -> Made
-    requires { ⌜ CanJudge terms (now masks) (now held) ⌝ }
+    requires { ⌜ CanJudge terms (now masks) (now held) × (slot < mostSlots) ⌝ }
     ensures { λ r. ⌜ ((w : Setting) (s : Store) (x y : Labelled) (b : Label) → Serves w terms (now (masks .entry)) → StoreHeld (w .tables) s (now (held .entry)) → x .value .payload ≡ slot → LabelHeld (w .tables .order) (x .label) target → ValueHeld (w .tables .order) y kind payload value → LabelHeld (w .tables .order) b branch → MadeAs (w .tables) (making r) (permit w b x y)) ⌝ }
 {
     let row = row_of(held, slot);
@@ -424,12 +421,11 @@ fn wide16(x: u16) -> usize
 
 // Puts what an assignment writes into its slot's row.
 fn put(held: &mut [[u64; 3]; 256], slot: u64, kind: u64, payload: u64, owner: u64)
-    ensures { λ r. ⌜ ((w : Tables) (s : Store) (x : Write) → Grounds w → StoreHeld w s (now (held .entry)) → x .slot ≡ slot → x .value .kind ≡ kind → x .value .payload ≡ payload → ownerOf w slot ≡ owner → StoreHeld w (written x s) (now (held .exit))) ⌝ }
+    requires { ⌜ slot < mostSlots ⌝ }
+    ensures { λ r. ⌜ ((w : Tables) (s : Store) (x : Write) → StoreHeld w s (now (held .entry)) → Named kind payload → x .slot ≡ slot → x .value .kind ≡ kind → x .value .payload ≡ payload → ownerOf w slot ≡ owner → StoreHeld w (written x s) (now (held .exit))) ⌝ }
 {
-    if slot < 256 {
-        let i = slot as usize;
-        held[i] = [kind, payload, owner];
-    }
+    let i = slot as usize;
+    held[i] = [kind, payload, owner];
 }
 
 fn entered_at(at: usize, depth: usize, label: u32, steps: u32) -> Move

@@ -1,15 +1,18 @@
 -- Laws of numbers, values and slots in bytes: their widths, and that what is written is read back. Assumes nothing.
 use Prim.Native.Nat.{ℕ, zero, suc, _+_, _*_, _/_, _%_, _^_, _≤_, _<_}
 use mathlib.Core.Path.{_≡_, refl, ap, ap₂, _∙_}
+use mathlib.Core.Bool.{true}
 use mathlib.Core.List.{List, _∷_}
 use native.Mathlib.Nat.{pow-suc, div-lt-iff-lt-mul}
 use native.Mathlib.Numerals.{add-one}
 use native.Mathlib.Omega.{arith}
 use lib.ListN.{length, getD, drop, length-append}
 use lib.Seq.{getD-take, getD-drop}
+use borrow.Author.Tests.{ltb-true}
+use Rattle.lattice.specs.Tests.{_and_, _or_}
 use Rattle.store.specs.Bytes.{numberAt, numberBytes, part}
 use Rattle.store.specs.declared.Value.{Value}
-use Rattle.store.specs.Value.{payloadWidth, valueWidth, valueAt, valueBytes, Slot, emptySlot, slotWidth, slotBytes}
+use Rattle.store.specs.Value.{payloadWidth, valueWidth, readView, writeView, viewed, wellFormed, valueAt, valueBytes, Slot, emptySlot, slotWidth, slotBytes}
 use Rattle.store.specs.Sheet.{slotsBytes}
 
 pub length-number : (width x : ℕ) → length (numberBytes width x) ≡ width
@@ -65,3 +68,13 @@ unfolding valueAt
 value-part s at n q =
     ap₂ (λ (k p : ℕ). record { kind = k; payload = p })
     (getD-take n (drop at s) 0 0 (omega arith) ∙ getD-drop at s 0 0 ∙ ap (λ (j : ℕ). getD s j 0) (omega arith)) (number-part payloadWidth n s at 1 (omega arith))
+
+-- a view that is well-formed names one of the m slots
+module _ (m : ℕ) (v : Value) (h : wellFormed m v ≡ true) where
+  pub read-inside : v .kind ≡ readView → viewed v < m
+  unfolding wellFormed _and_ _or_
+  read-inside k = ltb-true _ _ (rw k at h)
+
+  pub write-inside : v .kind ≡ writeView → viewed v < m
+  unfolding wellFormed _and_ _or_
+  write-inside k = ltb-true _ _ (rw k at h)

@@ -1,6 +1,6 @@
 -- Laws of a good store sheet: its order table, its owners, its slots, and its end in the output. Assumes nothing.
 use Prim.Native.Nat.{ℕ, zero, suc, _+_, _*_, _≤_, _<_}
-use mathlib.Core.Path.{_≡_, sym, ap, _∙_}
+use mathlib.Core.Path.{_≡_, refl, sym, ap, _∙_}
 use mathlib.Core.Logic.{⊎-elim}
 use mathlib.Core.Bool.{true}
 use mathlib.Core.List.{List, _++_}
@@ -10,12 +10,13 @@ use native.Mathlib.Decide.{decLt}
 use lib.ListN.{length, getD, take, drop, List·getD-eq-default}
 use lib.Seq.{take-at, drop-append-add}
 use borrow.Author.Tests.{ltb-true, leb-true, le-ltb}
+use Rattle.lattice.specs.Tests.{_or_}
 use Rattle.lattice.specs.Order.{good}
 use Rattle.lattice.proofs.Tests.{and-l, and-r}
 use Rattle.store.specs.Result.{Result, inTurn}
 use Rattle.store.specs.Bytes.{Bytes, part, table, filled}
-use Rattle.store.specs.Value.{payloadWidth, valueAt, Slot, opened, emptySlot, slotWidth, slotBytes}
-use Rattle.store.specs.Sheet.{Tables, Opening, ownerOf, mostSlots, nOf, mOf, ownerAt, slotValueAt, orderOf, tablesOf, openingOf, Form, storeForm, slotChecked, bodyChecked, sheetChecked, sizesAllowed, storeSheet, slotsBytes}
+use Rattle.store.specs.Value.{payloadWidth, wellFormed, valueAt, Slot, opened, emptySlot, slotWidth, slotBytes}
+use Rattle.store.specs.Sheet.{Tables, Opening, ownerOf, mostSlots, nOf, mOf, ownerAt, slotValueAt, orderOf, tablesOf, openingOf, Form, storeForm, valueGood, slotChecked, bodyChecked, sheetChecked, sizesAllowed, storeSheet, slotsBytes}
 use Rattle.store.proofs.Result.{Post, Positive, post-ok, post-map, post-require, post-bind}
 use Rattle.store.proofs.Fill.{pick, length-filled, entry-at, filled-at}
 use Rattle.store.proofs.Numbers.{number-lt}
@@ -41,19 +42,20 @@ post-in-turn P Q (suc n) f h =
     post-map _ _ _ _ _ (h n (omega arith))
     (λ _ last i k. ⊎-elim (λ e. rw e last) (λ l. below i l) (eq-or-lt-of-le (le-of-suc-le-suc k))) (λ _ q. q)
 
--- a store sheet that is not refused
-pub record Checked (s : List ℕ) : Type 0 where
+-- a sheet that is not refused
+pub record Checked (f : Form) (s : List ℕ) : Type 0 where
   pub some : 1 ≤ nOf s
   pub small : mOf s ≤ mostSlots
   pub table : good (orderOf s) ≡ true
   pub owners : (i : ℕ) → i < mOf s → ownerAt s i < nOf s
+  pub values : (i : ℕ) → i < mOf s → valueGood f s i ≡ true
 
-pub slot-checked : (f : Form) (s : List ℕ) (i : ℕ) → Post (λ _. ownerAt s i < nOf s) Positive (slotChecked f s i)
+pub slot-checked : (f : Form) (s : List ℕ) (i : ℕ) → Post (λ _. (ownerAt s i < nOf s) × (valueGood f s i ≡ true)) Positive (slotChecked f s i)
 unfolding slotChecked
 slot-checked f s i =
-    post-require _ _ _ _ _ (λ e. post-require _ _ _ _ _ (λ _. post-ok _ _ _ (ltb-true _ _ e)) (λ _. omega arith)) (λ _. omega arith)
+    post-require _ _ _ _ _ (λ e. post-require _ _ _ _ _ (λ g. post-ok _ _ _ (ltb-true _ _ e, g)) (λ _. omega arith)) (λ _. omega arith)
 
-pub sheet-checked : (f : Form) (s : List ℕ) → Post (λ _. Checked s) Positive (sheetChecked f s)
+pub sheet-checked : (f : Form) (s : List ℕ) → Post (λ _. Checked f s) Positive (sheetChecked f s)
 unfolding sheetChecked bodyChecked sizesAllowed
 sheet-checked f s =
     post-require _ _ _ _ _
@@ -61,11 +63,12 @@ sheet-checked f s =
     (λ sizes. post-require _ _ _ _ _
     (λ _. post-require _ _ _ _ _
     (λ g. post-map _ _ _ _ _ (post-in-turn _ _ _ _ (λ i _. slot-checked f s i))
-    (λ _ owners. record {
+    (λ _ slots. record {
       some = leb-true _ _ (and-l _ _ (and-l _ _ sizes));
       small = leb-true _ _ (and-r _ _ sizes);
       table = g;
-      owners = owners;
+      owners = λ i h. slots i h .0;
+      values = λ i h. slots i h .1;
     }) (λ _ q. q))
     (λ _. omega arith)) (λ _. omega arith)) (λ _. omega arith)) (λ _. omega arith)
 
@@ -77,13 +80,13 @@ pub record Ordered (w : Tables) : Type 0 where
 -- what an opening is where its sheet s is not refused
 pub record Opens (s : List ℕ) (o : Opening) : Type 0 where
   pub ordered : Ordered (o .tables)
-  pub past : (i : ℕ) → mostSlots ≤ i → ownerOf (o .tables) i ≡ 0
   pub small : o .tables .slots ≤ mostSlots
   pub sized : length (o .store) ≡ mostSlots
   pub inside : (i : ℕ) → i < o .tables .slots → getD (o .store) i emptySlot ≡ opened (slotValueAt s i)
   pub outside : (i : ℕ) → o .tables .slots ≤ i → getD (o .store) i emptySlot ≡ emptySlot
+  pub formed : (i : ℕ) → wellFormed (o .tables .slots) (getD (o .store) i emptySlot .value) ≡ true
 
-owner-lt : (s : List ℕ) (c : Checked s) (i : ℕ) → ownerOf (tablesOf s) i < nOf s
+owner-lt : {f : Form} (s : List ℕ) (c : Checked f s) (i : ℕ) → ownerOf (tablesOf s) i < nOf s
 unfolding tablesOf
 owner-lt s c i = go (decLt i (mOf s))
   where
@@ -91,16 +94,24 @@ owner-lt s c i = go (decLt i (mOf s))
     go (yes h) = rw (filled-at mostSlots (ownerAt s) 0 (mOf s) 0 i (c .small) h) (c .owners i h)
     go (no h) = rw (filled-past mostSlots (mOf s) (ownerAt s) 0 i (omega arith)) (c .some)
 
-opens : (s : List ℕ) → Checked s → Opens s (openingOf s)
+formed-at : (s : List ℕ) (c : Checked storeForm s) (i : ℕ) → wellFormed (mOf s) (getD (openingOf s .store) i emptySlot .value) ≡ true
+unfolding openingOf opened emptySlot valueGood wellFormed _or_
+formed-at s c i = go (decLt i (mOf s))
+  where
+    go : Dec (i < mOf s) → wellFormed (mOf s) (getD (openingOf s .store) i emptySlot .value) ≡ true
+    go (yes h) = rw (filled-at mostSlots (λ j. opened (slotValueAt s j)) emptySlot (mOf s) emptySlot i (c .small) h) (c .values i h)
+    go (no h) = rw (filled-past mostSlots (mOf s) (λ j. opened (slotValueAt s j)) emptySlot i (omega arith)) refl
+
+opens : (s : List ℕ) → Checked storeForm s → Opens s (openingOf s)
 unfolding openingOf tablesOf orderOf
 opens s c =
     record {
       ordered = record { table = c .table; owners = owner-lt s c };
-      past = λ i h. filled-past mostSlots (mOf s) (ownerAt s) 0 i (omega (arith, c .small));
       small = c .small;
       sized = length-filled mostSlots _ _ (mOf s);
       inside = λ i h. filled-at mostSlots _ _ (mOf s) _ i (c .small) h;
       outside = λ i h. filled-past mostSlots (mOf s) _ _ i h;
+      formed = formed-at s c;
     }
 
 pub store-opens : (s : List ℕ) → Post (Opens s) Positive (storeSheet s)

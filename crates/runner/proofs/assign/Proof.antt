@@ -1,16 +1,16 @@
 use borrow.Author.Needs.{needs}
-use Prim.Native.Nat.{ℕ, _+_, _≤_}
+use Prim.Native.Nat.{ℕ, _+_}
 use mathlib.Core.Path.{sym}
 use native.Mathlib.Omega.{arith}
 use denote.Ref.{now}
-use lib.ListN.{length}
 use Rattle.store.specs.Value.{valueWidth}
 use Rattle.programme.specs.Syntax.{Expr}
 use Rattle.calculus.specs.Calculus.{Setting, Store, assignment, eval}
-use Rattle.runner.specs.Layout.{ExprAt, ExprIn}
+use Rattle.runner.specs.Layout.{ExprAt, ExprIn, ExprTo}
 use Rattle.runner.specs.Answers.{got}
 use Rattle.runner.specs.Held.{Serves, StoreHeld, EvaluatedAs, MadeAs}
-use Rattle.runner.proofs.Scan.{literal-in}
+use Rattle.runner.proofs.Scan.{found}
+use Rattle.runner.proofs.Chain.{literal-in, gave}
 use Rattle.runner.proofs.Answered.{got-value, got-refused}
 use Rattle.runner.proofs.Judging.{spent, unspent-is, assign-refused, assign-kind, assign-value-refused, assign-judged}
 use Rattle.runner.proofs.assign.Statement.{statement}
@@ -30,13 +30,11 @@ abbrev entry : tie.After-literal-at → tie.Start
 entry c = c .before .before .before
 
 -- where the target's literal stands, and what the target was evaluated to
-first-in : (c : tie.After-literal-at)
-    → (entry c .args .at ≤ c .literal-at .result) × (c .literal-at .result + 1 + valueWidth ≤ length (now (entry c .args .code)))
-first-in c =
-    let f = entry c .pre .1 .first in literal-in _ _ _ f (c .literal-at .ensures (f .expr) (f .end) (f .stands))
+first-to : (c : tie.After-literal-at) → ExprTo (now (entry c .args .code)) (entry c .args .at) (c .literal-at .result)
+first-to c = found _ _ _ (entry c .pre .1 .first) (c .literal-at .ensures)
 
 eval-requires : tie.Need-eval-requires
-eval-requires c κs = (entry c .pre .0, first-in c .0, first-in c .1)
+eval-requires c κs = (entry c .pre .0, first-to c)
 
 target : (c : tie.After-eval) (w : Setting) (s : Store) (x : Expr) (mid : ℕ)
     → Serves w (entry (c .before) .args .terms) (now (entry (c .before) .args .masks))
@@ -64,10 +62,10 @@ returns-3 c w s x y mid end b v h p q l =
     (assign-kind w s b x y (rw (got-value (a .eval .result) (c .before .before .if2 .left)) at (target a w s x mid v h p)) (c .before .if3 .taken))
 
 add-next : tie.Need-add-next
-add-next c = let a = c .before .before .before in omega (arith, first-in a .1, entry a .good)
+add-next c = let a = c .before .before .before in omega (arith, literal-in _ (first-to a), entry a .good)
 
 add-next-2 : tie.Need-add-next-2
-add-next-2 c = let a = c .before .before .before in omega (arith, first-in a .1, entry a .good)
+add-next-2 c = let a = c .before .before .before in omega (arith, literal-in _ (first-to a), entry a .good)
 
 -- the value stands after it, and what it was evaluated to
 second-in : (c : tie.Else3)
@@ -82,9 +80,7 @@ literal-at-requires-2 c κs = second-in c
 
 eval-requires-2 : tie.Need-eval-requires-2
 eval-requires-2 c κs =
-    let f = second-in (c .before) in
-    let k = literal-in _ _ _ f (c .literal-at2 .ensures (f .expr) (f .end) (f .stands)) in
-    (entry (c .before .before .before .before) .pre .0, k .0, k .1)
+    (entry (c .before .before .before .before) .pre .0, found _ _ _ (second-in (c .before)) (c .literal-at2 .ensures))
 
 abbrev first : tie.After-eval2 → tie.Start
 first c = entry (c .before .before .before .before .before)
@@ -109,7 +105,13 @@ returns-4 c w s x y mid end b v h p q l =
     (rw (got-refused (u .eval2 .result) (c .before .if4 .taken)) at (value u w s x y mid end v h p q)))
 
 permit-requires : tie.Need-permit-requires
-permit-requires c κs = search needs
+permit-requires c κs =
+    let d = c .before .before .before in
+    let a = d .before .before in
+    let j = entry (a .before) .pre .0 in
+    let f = entry (a .before) .pre .1 .first in
+    let t = target a (j .setting) (j .store) (f .expr) (f .end) (j .serves) (j .held) (f .stands) in
+    (j, gave (rw (got-value (a .eval .result) (d .before .if2 .left)) at t) .held .named .writes (d .if3 .left))
 
 returns-5 : tie.Need-returns-5
 returns-5 c w s x y mid end b v h p q l =

@@ -2,7 +2,7 @@
 use borrow.Author.Needs.{needs}
 use native.Mathlib.Omega.{arith}
 use Rattle.runner.proofs.Answered.{making-write, making-refused}
-use Rattle.runner.proofs.Moving.{sizes, can-judge, assign-two, assign-writes, assign-refused}
+use Rattle.runner.proofs.Moving.{sizes, can-judge, assign-two, write-inside, assign-writes, assign-refused}
 use Rattle.runner.proofs.enter_assign.Statement.{statement}
 use Rattle.runner.proofs.enter_assign.Tie as tie
 
@@ -22,7 +22,10 @@ returns c =
     rw (c .stopped-at .ensures) (assign-refused (p .0) (p .1) (rw (making-refused (b .assign .result) (c .before .if1 .taken)) at (b .assign .ensures)))
 
 put-requires : tie.Need-put-requires
-put-requires c κs = search needs
+put-requires c κs =
+    let a = c .before .before in
+    let p = a .before .before .before .pre in
+    write-inside (p .0) (p .1) (rw (making-write (a .assign .result) (c .before .if1 .left)) at (a .assign .ensures))
 
 mul-wide16 : tie.Need-mul-wide16
 mul-wide16 c = omega (arith, sizes (c .before .before .before .before .before .before .pre .0))

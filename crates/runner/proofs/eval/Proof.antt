@@ -1,5 +1,5 @@
 use borrow.Author.Needs.{needs}
-use Prim.Native.Nat.{ℕ, _+_}
+use Prim.Native.Nat.{ℕ, _+_, _-_}
 use mathlib.Core.Path.{_≡_, refl}
 use native.Mathlib.Omega.{arith}
 use borrow.Author.Tests.{not-true, not-false}
@@ -9,32 +9,42 @@ use Rattle.runner.specs.Layout.{readsOf, ExprAt}
 use Rattle.runner.specs.Answers.{gotBy}
 use Rattle.runner.specs.Held.{Serves, StoreHeld}
 use Rattle.runner.proofs.Admission.{owner-in}
-use Rattle.runner.proofs.Chain.{Ready, ready-all, ready-barred, ready-done, ready-kind, ready-next}
+use Rattle.runner.proofs.Chain.{literal-in, Ready, ready-all, ready-barred, ready-done, ready-kind, ready-next}
 use Rattle.runner.proofs.eval.Statement.{statement}
 use Rattle.runner.proofs.eval.Tie as tie
 
 abbrev Inv-loop : tie.InvT-loop
-Inv-loop code held masks terms at inner kind₀ payload₀ label₀ left₀ kind payload label left =
+Inv-loop code held masks terms at inner kind₀ payload₀ label₀ here₀ kind payload label here =
     (w : Setting) (s : Store) (e : Expr) (end : ℕ) → Serves w terms masks → StoreHeld (w .tables) s held → ExprAt code e at end
-    → inner ≡ at + readsOf e → Ready w s kind payload label left (eval w s e)
+    → inner ≡ at + readsOf e → Ready w s kind payload label at here (eval w s e)
 
 abbrev μ-loop : tie.MeasureT-loop
-μ-loop code held masks terms at inner kind₀ payload₀ label₀ left₀ kind payload label left = left
+μ-loop code held masks terms at inner kind₀ payload₀ label₀ here₀ kind payload label here = here - at
 
 literal-requires : tie.Need-literal-requires Inv-loop μ-loop
-literal-requires c κs = search needs
+literal-requires c κs = literal-in _ (c .before .pre .1) .1
 
 wide-requires : tie.Need-wide-requires Inv-loop μ-loop
 wide-requires c κs = search needs
 
-sub-left : tie.Need-sub-left Inv-loop μ-loop
-sub-left c = search needs
-
 loop-holds : tie.Need-loop-holds Inv-loop μ-loop
-loop-holds c w s e end v h x q = ready-all w s _ e _ _ end _ _ _ _ _ x q refl (c .before .literal .ensures) (c .wide .ensures) refl (v .top)
+loop-holds c w s e end v h x q = ready-all w s _ e _ _ end _ _ _ _ x q (c .before .literal .ensures) (c .wide .ensures) refl (v .top)
+
+-- what the caller's setting and expression make of the value that has turned up
+abbrev entry : tie.At-loop Inv-loop μ-loop → tie.Start Inv-loop μ-loop
+entry c = c .before .before .before .before
+
+ready : (c : tie.At-loop Inv-loop μ-loop)
+    → let p = entry c .pre in
+    Ready (p .0 .setting) (p .0 .store) (c .loop .kind) (c .loop .payload) (c .loop .label) (entry c .args .at) (c .loop .here)
+    (eval (p .0 .setting) (p .0 .store) (p .1 .some .expr))
+ready c =
+    let p = entry c .pre in
+    let x = p .1 .some in
+    c .loop .inv (p .0 .setting) (p .0 .store) (x .expr) (x .end) (p .0 .serves) (p .0 .held) (x .stands) (p .1 .reads)
 
 admitted-requires : tie.Need-admitted-requires Inv-loop μ-loop
-admitted-requires c κs = search needs
+admitted-requires c κs = (entry c .pre .0, ready c .held .named)
 
 refused-value-requires : tie.Need-refused-value-requires Inv-loop μ-loop
 refused-value-requires c κs = search needs
@@ -63,7 +73,7 @@ returns-3 c w s e end v h x q =
     (c .before .if3 .taken))
 
 row-of-requires : tie.Need-row-of-requires Inv-loop μ-loop
-row-of-requires c κs = search needs
+row-of-requires c κs = ready (c .before .before .before .before) .held .named .reads (c .if3 .left)
 
 array-read-owner : tie.Need-array-read-owner Inv-loop μ-loop
 array-read-owner c = search needs
@@ -80,19 +90,19 @@ array-read-kind c = search needs
 array-read-payload : tie.Need-array-read-payload Inv-loop μ-loop
 array-read-payload c = search needs
 
-sub-left-2 : tie.Need-sub-left-2 Inv-loop μ-loop
-sub-left-2 c = omega arith
+sub-here : tie.Need-sub-here Inv-loop μ-loop
+sub-here c = let d = c .before .before in omega (arith, ready (d .before .before .before .before) .behind)
 
 loop-less : tie.Need-loop-less Inv-loop μ-loop
-loop-less c = omega arith
+loop-less c = let d = c .before .before in omega (arith, ready (d .before .before .before .before) .behind)
 
 loop-again : tie.Need-loop-again Inv-loop μ-loop
 loop-again c w s e end v h x q =
     let d = c .before .before in
     let a = d .before .before in
     let b = a .before in
-    ready-next w s (b .before .loop .inv w s e end v h x q) _ (b .admitted .ensures w s v h) v _ (not-false _ (a .if1 .left))
-    (d .before .if2 .left) (d .if3 .left) (c .before .row-of .ensures (w .tables) s (v .grounds) h)
+    ready-next w s (b .before .loop .inv w s e end v h x q) _ (b .admitted .ensures w s v h) v h _ (not-false _ (a .if1 .left))
+    (d .before .if2 .left) (d .if3 .left) (c .before .row-of .ensures (w .tables) s h)
 
 pub eval-spec : {M : Type 1} → statement M
 eval-spec =
@@ -102,7 +112,6 @@ eval-spec =
     μ-loop
     literal-requires
     wide-requires
-    sub-left
     loop-holds
     admitted-requires
     refused-value-requires
@@ -116,6 +125,6 @@ eval-spec =
     element-copy-out-mask
     array-read-kind
     array-read-payload
-    sub-left-2
+    sub-here
     loop-less
     loop-again)

@@ -13,7 +13,7 @@ run-block-requires : tie.Need-run-block-requires
 run-block-requires c κs =
     let e = c .before .before .before .before in
     let p = e .before .before .before .before .pre in
-    let r = block-ready _ _ _ _ (p .command) (p .reads) (p .short) (p .room) (e .before .read-block .ensures .1) in
+    let r = block-ready _ _ _ _ (p .command) (p .reads) (p .few) (p .short) (p .room) (e .before .read-block .ensures .1) in
     let s = e .terms-of .ensures (p .setting) (p .under) in
     record {
       setting = p .setting;
@@ -30,9 +30,9 @@ returns : tie.Need-returns
 returns c =
     let e = c .before .before .before .before .before in
     let p = e .before .before .before .before .pre in (
-      block-ready _ _ _ _ (p .command) (p .reads) (p .short) (p .room) (e .before .read-block .ensures .1) .room,
+      block-ready _ _ _ _ (p .command) (p .reads) (p .few) (p .short) (p .room) (e .before .read-block .ensures .1) .room,
       λ w s d u h r.
-          c .run-block .ensures w s d (e .terms-of .ensures w u) h (block-ready _ _ _ _ d r (p .short) (p .room) (e .before .read-block .ensures .1) .stands),
+          c .run-block .ensures w s d (e .terms-of .ensures w u) h (block-ready _ _ _ _ d r (p .few) (p .short) (p .room) (e .before .read-block .ensures .1) .stands),
     )
 
 pub play-block-spec : {M : Type 1} → statement M
