@@ -38,10 +38,10 @@ module _ (code : List ℕ) where
       record { last = omega (arith, k .last); within = k .within }
 
   -- its literal stands inside the code ..
-  pub literal-in : {at inner : ℕ} → ExprTo code at inner → (at ≤ inner) × (inner + 1 + valueWidth ≤ length code)
+  pub literal-in : {at inner : ℕ} → ExprTo code at inner → inner + 1 + valueWidth ≤ length code
   literal-in {at} x =
       let k = expr-ends (x .some .expr) at (x .some .end) (x .some .stands) in
-      (omega (arith, x .reads), omega (arith, x .reads, k .last, k .within))
+      omega (arith, x .reads, k .last, k .within)
 
   -- .. and names a slot that is held, if it is a view
   literal-named : (e : Expr) (at end : ℕ) → ExprAt code e at end

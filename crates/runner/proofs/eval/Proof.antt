@@ -22,7 +22,7 @@ abbrev μ-loop : tie.MeasureT-loop
 μ-loop code held masks terms at inner kind₀ payload₀ label₀ here₀ kind payload label here = here - at
 
 literal-requires : tie.Need-literal-requires Inv-loop μ-loop
-literal-requires c κs = literal-in _ (c .before .pre .1) .1
+literal-requires c κs = literal-in _ (c .before .pre .1)
 
 wide-requires : tie.Need-wide-requires Inv-loop μ-loop
 wide-requires c κs = search needs
