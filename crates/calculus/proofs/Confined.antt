@@ -8,7 +8,7 @@ use Rattle.lattice.proofs.Order.{top-lt}
 use Rattle.lattice.proofs.Tests.{and-l, and-r}
 use Rattle.store.specs.Sheet.{Tables, ownerOf}
 use Rattle.store.proofs.Result.{Post, Any, post-ok, post-require, post-bind}
-use Rattle.store.proofs.Opening.{Ordered}
+use Rattle.store.specs.Held.{Ordered}
 use Rattle.programme.specs.declared.Header.{Header}
 use Rattle.programme.specs.Syntax.{Expr, literal, read, Cmd, cmd, Body, skip, assign, seq, if, while, Cmds, nil, cons}
 use Rattle.calculus.specs.Rules.{fullProvenance, judgesRegion, labelsJudged, allAbove}

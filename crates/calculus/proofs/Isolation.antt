@@ -16,7 +16,8 @@ use Rattle.store.specs.Value.{opened, emptySlot, slotWidth, slotBytes}
 use Rattle.store.specs.Sheet.{Tables, ownerOf, slotValueAt, storeSheet}
 use Rattle.store.proofs.Result.{Any, post-all, post-at}
 use Rattle.store.proofs.Pairs.{Post₂, Each, post₂-ok, post₂-join, post₂-equal, post₂-require, post₂-at, post₂-refused-as, post₂-bind}
-use Rattle.store.proofs.Opening.{Ordered, Opens, store-opens, values-one, slots-part}
+use Rattle.store.specs.Held.{Ordered}
+use Rattle.store.proofs.Opening.{Opens, store-opens, values-one, slots-part}
 use Rattle.programme.specs.Syntax.{Cmd}
 use Rattle.programme.specs.Code.{readBlock}
 use Rattle.programme.specs.declared.Header.{Header}

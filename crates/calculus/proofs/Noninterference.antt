@@ -12,7 +12,7 @@ use Rattle.store.specs.Value.{readView, is, viewed, Slot, emptySlot}
 use Rattle.store.specs.Sheet.{Tables, ownerOf}
 use Rattle.store.proofs.Result.{Post, Any, post-ok, post-all, post-require, post-bind}
 use Rattle.store.proofs.Pairs.{Post₂, Each, none, more, post₂-ok, post₂-map, post₂-join, post₂-equal, post₂-refused-as, post₂-bind}
-use Rattle.store.proofs.Opening.{Ordered}
+use Rattle.store.specs.Held.{Ordered}
 use Rattle.programme.specs.declared.Header.{Header}
 use Rattle.programme.specs.Sheet.{Block}
 use Rattle.programme.specs.Syntax.{Expr, literal, read, Cmd, cmd, Body, skip, assign, seq, if, while, Cmds, nil, cons}

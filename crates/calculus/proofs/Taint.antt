@@ -13,7 +13,7 @@ use Rattle.lattice.specs.Order.{Label, mask, bit, below, meet}
 use Rattle.lattice.proofs.Order.{good-at, below-trans, meet-lt, meet-meets}
 use Rattle.store.specs.Value.{assigned, emptySlot}
 use Rattle.store.specs.Sheet.{Tables, ownerOf}
-use Rattle.store.proofs.Opening.{Ordered}
+use Rattle.store.specs.Held.{Ordered}
 use Rattle.calculus.specs.Calculus.{Store, Write, written}
 
 -- at or below the adversary a: said of labels, owners and regions

@@ -12,16 +12,16 @@ use Rattle.lattice.specs.Order.{meet, top}
 use Rattle.lattice.specs.declared.Table.{Table}
 use Rattle.store.specs.Result.{Result, ok, refuse, _>>=_, require}
 use Rattle.store.specs.declared.Value.{Value}
-use Rattle.store.specs.Value.{valueAt, valueWidth, emptySlot}
-use Rattle.store.specs.Sheet.{ownerOf}
+use Rattle.store.specs.Value.{valueAt, valueWidth, wellFormed, emptySlot}
+use Rattle.store.specs.Sheet.{ownerOf, mostSlots}
 use Rattle.store.specs.Held.{rowOf}
 use Rattle.programme.specs.Syntax.{Expr, literal, read}
 use Rattle.calculus.specs.Calculus.{Setting, Store, Labelled, contents, mayHold, admit, fetch, eval}
 use Rattle.runner.specs.declared.Terms.{Terms}
 use Rattle.runner.specs.Answers.{Got}
 use Rattle.runner.specs.Layout.{readsOf, ExprAt, ExprTo}
-use Rattle.runner.specs.Held.{Named, LabelHeld, Serves, StoreHeld, ValueHeld, EvaluatedAs}
-use Rattle.runner.proofs.Rows.{row-kind, row-payload, row-owner, row-named}
+use Rattle.runner.specs.Held.{LabelHeld, Serves, StoreHeld, ValueHeld, EvaluatedAs}
+use Rattle.runner.proofs.Rows.{row-kind, row-payload, row-owner}
 use Rattle.runner.proofs.Labels.{meet-held, owner-held}
 
 module _ (code : List ℕ) where
@@ -43,16 +43,15 @@ module _ (code : List ℕ) where
       let k = expr-ends (x .some .expr) at (x .some .end) (x .some .stands) in
       omega (arith, x .reads, k .last, k .within)
 
-  -- .. and names a slot that is held, if it is a view
-  literal-named : (e : Expr) (at end : ℕ) → ExprAt code e at end
-      → let v = valueAt code (at + readsOf e + 1) in Named (v .kind) (v .payload)
+  -- .. and is well-formed
+  literal-formed : (e : Expr) (at end : ℕ) → ExprAt code e at end → wellFormed mostSlots (valueAt code (at + readsOf e + 1)) ≡ true
   unfolding readsOf
-  literal-named (literal v) at end (ExprAt.isLiteral b q n l h) =
+  literal-formed (literal v) at end (ExprAt.isLiteral b q n l h) =
       let k : at + 1 ≡ at + 0 + 1 = omega arith in
       rw (q, k) at n
-  literal-named (read e) at end (ExprAt.isRead b x) =
+  literal-formed (read e) at end (ExprAt.isRead b x) =
       let k : at + 1 + readsOf e + 1 ≡ at + (readsOf e + 1) + 1 = omega arith in
-      rw k at (literal-named e (at + 1) end x)
+      rw k at (literal-formed e (at + 1) end x)
 
 -- an answer that is a value, and one that is a refusal
 pub record Gave (t : Table) (k p l : ℕ) (r : Result ℕ Labelled) : Type 0 where
@@ -125,7 +124,7 @@ module _ (w : Setting) (s : Store) where
         held = record {
           kind = sym (hk ∙ ap (λ (y : Value). y .kind) r);
           payload = sym (hp ∙ ap (λ (y : Value). y .payload) r);
-          named = rw (hk, hp, r, q) (literal-named code e at end x);
+          formed = rw q (literal-formed code e at end x);
           label = h;
         };
         behind = omega arith;
@@ -183,10 +182,10 @@ module _ (w : Setting) (s : Store) where
           held = record {
             kind = sym (row-kind o i row r);
             payload = sym (row-payload o i row r);
-            named = row-named u p i row r;
+            formed = u .formed p;
             label =
                 rw (row-owner o i row r, ← v .masks)
-                (meet-held (w .tables .order) (y .held .label) (owner-held (w .tables) (v .grounds) p) (v .grounds .order));
+                (meet-held (w .tables .order) (y .held .label) (owner-held (w .tables) (v .grounds) p) (v .grounds .table));
           };
           behind = omega (arith, y .behind);
           rest = sym (reads h z ∙ ap (λ (r : Result ℕ Labelled). chain (here - 1 - at) r) (fetched n));

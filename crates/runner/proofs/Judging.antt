@@ -124,7 +124,7 @@ module _ (w : Setting) (x y : Labelled) (b : Label) (i : ℕ) (q : x .value .pay
       → authorised w i ≡ true → reliable w i (labelsJudged (w .rules) (x .label) (y .label) b) ≡ true
       → MadeAs (w .tables) (Making.Write i k p o) (permit w b x y)
   unfolding permit require
-  permit-writes h k p l o s u a n = rw (q, a, n) (MadeAs.writes h (s .named) refl (s .kind) (s .payload) u)
+  permit-writes h k p l o s u a n = rw (q, a, n) (MadeAs.writes h (s .formed) refl (s .kind) (s .payload) u)
 
 -- a guard: its expression is refused, its kind is wrong, it passes, it fails
 module _ (w : Setting) (s : Store) (g : Expr) where

@@ -11,7 +11,8 @@ use Rattle.lattice.specs.Order.{Label, mostPrincipals, bit, below, good, meet}
 use Rattle.lattice.proofs.Bits.{bit-and}
 use Rattle.lattice.proofs.Order.{good-at, meet-lt, mask-meet}
 use Rattle.store.specs.Sheet.{Tables, ownerOf}
-use Rattle.runner.specs.Held.{LabelHeld, Grounds}
+use Rattle.store.specs.Held.{Ordered}
+use Rattle.runner.specs.Held.{LabelHeld}
 
 module _ (t : Table) {l : Label} {x : ℕ} (h : LabelHeld t l x) where
   -- who stands at or below a label
@@ -30,9 +31,9 @@ module _ (t : Table) {l m : Label} {x y : ℕ} (h : LabelHeld t l x) (k : LabelH
         same = ap₂ (λ (a b : ℕ). bitAnd a b) (h .same) (k .same) ∙ sym (mask-meet t e l m (h .inside) (k .inside));
       }
 
-module _ (w : Tables) (g : Grounds w) (i : ℕ) where
+module _ (w : Tables) (g : Ordered w) (i : ℕ) where
   pub owner-few : ownerOf w i < mostPrincipals
-  owner-few = omega (arith, g .owners i, good-at (w .order) (g .order) .few)
+  owner-few = omega (arith, g .owners i, good-at (w .order) (g .table) .few)
 
   -- an owner, as a label
   pub owner-held : LabelHeld (w .order) (ownerOf w i) (getD (w .order .masks) (ownerOf w i) 0)

@@ -10,14 +10,14 @@ use lib.Bits.{bitAnd}
 use Rattle.lattice.specs.declared.Table.{Table}
 use Rattle.lattice.specs.Order.{Label}
 use Rattle.store.specs.Result.{Result, ok, refuse}
-use Rattle.store.specs.Value.{valueWidth}
+use Rattle.store.specs.Value.{valueWidth, wellFormed}
 use Rattle.store.specs.Sheet.{Tables, ownerOf, mostSlots}
 use Rattle.programme.specs.Syntax.{Expr, Cmd}
 use Rattle.calculus.specs.Calculus.{Setting, Store, State, Stop, Judged, Write, judge, assignment, counted, written, performed, step}
 use Rattle.runner.specs.Answers.{Ruling, Making, Control}
 use Rattle.runner.specs.declared.Terms.{Terms}
 use Rattle.runner.specs.Layout.{readsOf, ExprAt, ExprIn, TwoExprs, CmdAt}
-use Rattle.runner.specs.Held.{Named, LabelHeld, Serves, StoreHeld, JudgedAs, MadeAs, CanJudge, unspent}
+use Rattle.runner.specs.Held.{LabelHeld, Serves, StoreHeld, JudgedAs, MadeAs, CanJudge, unspent}
 use Rattle.runner.specs.Moves.{StateHeld, EntersAs, LeavesAs, StopsAs, Moves, Entered, CanEnter}
 use Rattle.runner.proofs.Stack.{head-bounds}
 use Rattle.runner.proofs.Entering.{step-made, step-forbidden, step-early, entered-bounds, at-assign, at-if, at-while, enter-skip, enter-seq, enter-chosen, enter-other, enter-body, pass-while, pass-assign, stop-assign, stop-if, stop-while}
@@ -43,14 +43,14 @@ record Written (w : Tables) (i k p o : ℕ) (r : Result ℕ Write) : Type 0 wher
   pub write : Write
   pub answer : r ≡ ok write
   pub inside : i < mostSlots
-  pub named : Named k p
+  pub formed : wellFormed mostSlots (write .value) ≡ true
   pub slot : write .slot ≡ i
   pub kind : write .value .kind ≡ k
   pub payload : write .value .payload ≡ p
   pub owner : ownerOf w i ≡ o
 
 made : {w : Tables} {i k p o : ℕ} {r : Result ℕ Write} → MadeAs w (Making.Write i k p o) r → Written w i k p o r
-made (MadeAs.writes {x = x} l n a b c d) = record { write = x; answer = refl; inside = l; named = n; slot = a; kind = b; payload = c; owner = d }
+made (MadeAs.writes {x = x} l n a b c d) = record { write = x; answer = refl; inside = l; formed = n; slot = a; kind = b; payload = c; owner = d }
 
 unmade : {w : Tables} {n : ℕ} {r : Result ℕ Write} → MadeAs w (Making.Refused n) r → r ≡ refuse n
 unmade MadeAs.refuses = refl
@@ -71,7 +71,7 @@ Assigns t masks code rows at branch steps r =
 
 abbrev pub Puts : List (List ℕ) → List (List ℕ) → ℕ → ℕ → ℕ → ℕ → Type 0
 Puts rows rows′ i k p o =
-    (w : Tables) (s : Store) (x : Write) → StoreHeld w s rows → Named k p → x .slot ≡ i → x .value .kind ≡ k → x .value .payload ≡ p
+    (w : Tables) (s : Store) (x : Write) → StoreHeld w s rows → wellFormed mostSlots (x .value) ≡ true → x .slot ≡ i → x .value .kind ≡ k → x .value .payload ≡ p
     → ownerOf w i ≡ o → StoreHeld w (written x s) rows′
 
 ticked : {w : Setting} {rows : List (List ℕ)} {n : ℕ} {s : State} → StateHeld w rows n s → StateHeld w rows (n + 1) (counted s)
@@ -112,7 +112,7 @@ module _ {w : Setting} {t : Terms} {masks code ends : List ℕ} {frames rows : L
         (record {
           state = counted (e .state);
           held = ticked (e .held);
-          enters = enter-chosen (e .enters) (h .grounds .order) (p .judged) (p .held) (within lit y p) q (makes lit y p) (p .verdict);
+          enters = enter-chosen (e .enters) (h .grounds .table) (p .judged) (p .held) (within lit y p) q (makes lit y p) (p .verdict);
         })
 
     if-other : {l : ℕ} → Guard t masks code rows (at + 1) inner steps (Ruling.Fails l)
@@ -125,7 +125,7 @@ module _ {w : Setting} {t : Terms} {masks code ends : List ℕ} {frames rows : L
         (record {
           state = counted (e .state);
           held = ticked (e .held);
-          enters = enter-other (e .enters) (h .grounds .order) (p .judged) (p .held) (within lit y p) q (makes lit y p) (p .verdict);
+          enters = enter-other (e .enters) (h .grounds .table) (p .judged) (p .held) (within lit y p) q (makes lit y p) (p .verdict);
         })
 
     if-stops : {n : ℕ} → Guard t masks code rows (at + 1) inner steps (Ruling.Refused n) → StopsAs w rows n at steps whole
@@ -148,7 +148,7 @@ module _ {w : Setting} {t : Terms} {masks code ends : List ℕ} {frames rows : L
         (record {
           state = counted (e .state);
           held = ticked (e .held);
-          enters = enter-body (e .enters) (h .grounds .order) (p .judged) (p .held) (within lit y p) q (makes lit y p) (p .verdict);
+          enters = enter-body (e .enters) (h .grounds .table) (p .judged) (p .held) (within lit y p) q (makes lit y p) (p .verdict);
         })
 
     while-passed : {l : ℕ} → Guard t masks code rows (at + 1) inner steps (Ruling.Fails l)
@@ -159,7 +159,7 @@ module _ {w : Setting} {t : Terms} {masks code ends : List ℕ} {frames rows : L
         record {
           state = counted (e .state);
           held = ticked (e .held);
-          leaves = pass-while (e .enters) (h .grounds .order) (p .judged) (p .held) (within lit y p) q (makes lit y p) (p .verdict);
+          leaves = pass-while (e .enters) (h .grounds .table) (p .judged) (p .held) (within lit y p) q (makes lit y p) (p .verdict);
         }
 
     while-stops : {n : ℕ} → Guard t masks code rows (at + 1) inner steps (Ruling.Refused n) → StopsAs w rows n at steps whole
@@ -190,9 +190,6 @@ module _ {w : Setting} {t : Terms} {masks code ends : List ℕ} {frames rows : L
         let y = made (settled f) in
         omega (arith, step-early w at (e .state) _ (y .write) (y .answer) (e .enters .kept), e .held .steps, h .budget)
 
-    assign-inside : {i k p o : ℕ} → Assigns t masks code rows (at + 1) x steps (Making.Write i k p o) → i < mostSlots
-    assign-inside f = made (settled f) .inside
-
     assign-passed : {i k p o : ℕ} {rows′ : List (List ℕ)} → Assigns t masks code rows (at + 1) x steps (Making.Write i k p o)
         → Puts rows rows′ i k p o
         → LeavesAs w code ends frames rows′ (t .top) (getD ends at 0) depth (steps + 1) whole
@@ -202,7 +199,7 @@ module _ {w : Setting} {t : Terms} {masks code ends : List ℕ} {frames rows : L
         record {
           state = performed (y .write) (e .state);
           held = record {
-            store = put (w .tables) (e .state .store) (y .write) (e .held .store) (y .named) (y .slot) (y .kind) (y .payload) (y .owner);
+            store = put (w .tables) (e .state .store) (y .write) (e .held .store) (y .formed) (y .slot) (y .kind) (y .payload) (y .owner);
             steps = ap (λ (n : ℕ). n + 1) (e .held .steps);
           };
           leaves = pass-assign (e .enters) q (y .write) (step-early w at (e .state) _ (y .write) (y .answer) (e .enters .kept))
@@ -255,7 +252,7 @@ module _ {t : Terms} {masks code ends : List ℕ} {frames rows : List (List ℕ)
       write-early = assign-early (c .serves) (c .enters) q f
 
       pub write-inside : i < mostSlots
-      write-inside = assign-inside (c .serves) (c .enters) q f
+      write-inside = made (settled (c .serves) (c .enters) q f) .inside
 
       pub assign-writes : {rows′ : List (List ℕ)} → Puts rows rows′ i k p o
           → Entered t masks code ends frames frames rows rows′ at depth x steps (Control.Leave (getD ends at 0) depth (steps + 1))

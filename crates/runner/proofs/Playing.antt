@@ -42,13 +42,13 @@ pub serves-under : (w : Setting) (t : Table) (j : Judges) (h : Header) (budget r
     (t .masks)
 unfolding judgesOf
 serves-under w t j h budget region full u p q =
-    let g = good-at (w .tables .order) (u .grounds .order) in
+    let g = good-at (w .tables .order) (u .grounds .table) in
     let n : min 32 (t .n) ≡ w .tables .order .n = omega (arith, g .few, ap (λ (x : Table). x .n) (u .order)) in
     record {
       grounds = u .grounds;
       masks = ap (λ (x : Table). x .masks) (u .order);
       region = record { inside = rw (← u .header, u .order) (u .region); same = rw (← u .header, u .order) p };
-      top = record { inside = top-lt (w .tables .order) (u .grounds .order); same = q ∙ ap (λ (x : ℕ). 2 ^ x - 1) n ∙ sym (mask-top (w .tables .order) (u .grounds .order)) };
+      top = record { inside = top-lt (w .tables .order) (u .grounds .table); same = q ∙ ap (λ (x : ℕ). 2 ^ x - 1) n ∙ sym (mask-top (w .tables .order) (u .grounds .table)) };
       endorsed = ap (λ (x : Header). x .endorsed) (u .header);
       views = ap (λ (x : Judges). x .views) (u .judges);
       regions = ap (λ (x : Judges). x .regions) (u .judges);
@@ -60,7 +60,7 @@ serves-under w t j h budget region full u p q =
 
 -- a region is a principal
 pub region-few : (w : Setting) (t : Table) (j : Judges) (h : Header) (budget : ℕ) → Under w t j h budget → h .region < mostPrincipals
-region-few w t j h budget u = omega (arith, good-at (w .tables .order) (u .grounds .order) .few, u .region, ap (λ (x : Table). x .n) (u .order))
+region-few w t j h budget u = omega (arith, good-at (w .tables .order) (u .grounds .table) .few, u .region, ap (λ (x : Table). x .n) (u .order))
 
 -- a block that is read again stands in its code, and the side table holds its ends
 pub record Ready (code ends : List ℕ) (c : Cmd) : Type 0 where

@@ -1,15 +1,19 @@
 -- Laws of a held store: what stands in a slot's row. Assumes nothing.
 use Prim.Native.Nat.{ℕ, _<_}
 use mathlib.Core.Path.{_≡_, ap, _∙_}
+use mathlib.Core.Logic.{_⊎_, inl, inr, ⊎-elim}
 use mathlib.Core.List.{List, []}
+use native.Mathlib.Omega.{arith}
 use lib.ListN.{getD}
+use Rattle.lattice.specs.declared.Table.{Table}
 use Rattle.lattice.specs.Order.{Label}
-use Rattle.store.specs.Value.{Slot, emptySlot}
+use Rattle.store.specs.Value.{readView, writeView, Slot, emptySlot}
 use Rattle.store.specs.Sheet.{Tables, ownerOf, mostSlots}
 use Rattle.store.specs.Held.{rowOf, heldOf}
+use Rattle.store.proofs.Bytes.{view-inside}
 use Rattle.store.proofs.Fill.{table-at}
-use Rattle.calculus.specs.Calculus.{Store}
-use Rattle.runner.specs.Held.{Named, StoreHeld}
+use Rattle.calculus.specs.Calculus.{Store, Labelled}
+use Rattle.runner.specs.Held.{StoreHeld, ValueHeld}
 
 module _ (w : Tables) (s : Store) (i : ℕ) where
   -- the row of a slot
@@ -32,7 +36,7 @@ module _ (s : Slot) (o : Label) (row : List ℕ) (e : row ≡ rowOf s o) where
   unfolding rowOf
   row-owner = ap (λ (r : List ℕ). getD r 2 0) e
 
--- a view in a slot's row names a slot that is held
-pub row-named : {w : Tables} {s : Store} {rows : List (List ℕ)} (h : StoreHeld w s rows) (i : ℕ) (o : Label) (row : List ℕ)
-    → row ≡ rowOf (getD s i emptySlot) o → Named (getD row 0 0) (getD row 1 0)
-row-named {s = s} h i o row e = rw (row-kind (getD s i emptySlot) o row e, row-payload (getD s i emptySlot) o row e) (h .named i)
+-- a view names a slot that is held
+pub view-held : {t : Table} {x : Labelled} {k p l : ℕ} → ValueHeld t x k p l → (k ≡ readView) ⊎ (k ≡ writeView) → p < mostSlots
+view-held {x = x} h v =
+    omega (arith, h .payload, view-inside mostSlots (x .value) (h .formed) (⊎-elim (λ r. inl (h .kind ∙ r)) (λ r. inr (h .kind ∙ r)) v))

@@ -19,6 +19,7 @@ use Rattle.store.specs.Held.{openedOf, heldAfter, heldOf, rowOf, rowBytes, rows
 use Rattle.store.proofs.Result.{Post, Refuses, refuses-ok, post-refuse, post-at, Positive}
 use Rattle.store.proofs.InTurn.{require-ok}
 use Rattle.store.proofs.Fill.{table-at}
+use Rattle.store.proofs.Bytes.{formed-more}
 use Rattle.store.proofs.Opening.{Opens, store-opens}
 use Rattle.programme.specs.Sheet.{Block, kOf, headerAt, headerGood, blocksFrom, programmeSheet, verdictOf}
 use Rattle.programme.specs.Reading.{GoodLengths}
@@ -32,7 +33,6 @@ use Rattle.runner.specs.declared.Ended.the-variants as e
 use Rattle.runner.specs.Held.{judgesLabels, judgesBranch, StoreHeld}
 use Rattle.runner.specs.Playing.{judgesOf, Plays, CanPlayAll, EndedAs, finished, halted, OpeningHeld, CanStart, CanFinish}
 use Rattle.programme.proofs.Refusals.{programme-refuses}
-use Rattle.runner.proofs.Standing.{named}
 use Rattle.runner.proofs.Playing.{next-block}
 
 -- a programme sheet that is taken in
@@ -76,8 +76,8 @@ opening-held s o t old rows e p q =
     let x = post-at _ _ _ _ (store-opens s) e in
     record {
       opened = p ∙ ap openedOf e;
-      grounds = record { order = x .ordered .table; owners = x .ordered .owners };
-      held = record { size = x .sized; same = q ∙ ap (λ (r : Result ℕ Opening). heldAfter r old) e; named = λ i. named _ _ (x .small) (x .formed i) };
+      grounds = x .ordered;
+      held = record { size = x .sized; same = q ∙ ap (λ (r : Result ℕ Opening). heldAfter r old) e; formed = λ i. formed-more _ _ (x .formed i) mostSlots (x .small) };
       small = x .small;
     }
 

@@ -1,5 +1,5 @@
 -- Laws of the search for an expression's literal, byte by byte. Assumes nothing.
-use Prim.Native.Nat.{ℕ, _+_, _≤_, _<_}
+use Prim.Native.Nat.{ℕ, _+_, _<_}
 use mathlib.Core.Path.{_≡_, refl, sym}
 use mathlib.Core.List.{List}
 use native.Mathlib.Omega.{arith}
@@ -52,6 +52,6 @@ pub scan-end : (code : List ℕ) (at here : ℕ) → Scanned code at here → (g
 scan-end code at here c n e end s = let l = c .every e end s in stop code at here end e (l .inner) (l .stands) (l .reads) n
 
 -- a literal that was found
-pub found : (code : List ℕ) (at r : ℕ) (x : ExprIn code at)
+pub literal-found : (code : List ℕ) (at r : ℕ) (x : ExprIn code at)
     → ((e : Expr) (end : ℕ) → ExprAt code e at end → (r ≡ at + readsOf e) × (r + 1 + valueWidth ≡ end)) → ExprTo code at r
-found code at r x h = record { some = x; reads = h (x .expr) (x .end) (x .stands) .0 }
+literal-found code at r x h = record { some = x; reads = h (x .expr) (x .end) (x .stands) .0 }

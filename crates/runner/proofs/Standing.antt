@@ -11,13 +11,12 @@ use Rattle.store.specs.declared.Value.{Value}
 use Rattle.store.specs.Result.{Result, ok, refuse}
 use Rattle.store.specs.Value.{valueWidth, wellFormed, valueAt}
 use Rattle.store.specs.Sheet.{mostSlots}
-use Rattle.store.proofs.Bytes.{read-inside, write-inside}
+use Rattle.store.proofs.Bytes.{formed-more}
 use Rattle.store.proofs.Result.{Post, Any, post-ok, post-refuse, post-map, post-require, post-bind}
 use Rattle.programme.specs.Syntax.{Expr, Cmd, cmd, Body, seq, Cmds, nil, cons}
 use Rattle.programme.specs.Code.{Fault, Read, readValue, ExprByte, literalByte, readByte, exprByte, exprBy, readExpr, mostReads, CmdByte, skipByte, assignByte, seqByte, ifByte, whileByte, sorted, cmdByte, readCmds, readAssign, readSeq, readIf, readWhile, bodyBy, bodyTooDeep, readBody, readCmd, mostDeep, readBlock}
 use Rattle.programme.proofs.Laid.{Laid, laid-lt, cmd-laid}
 use Rattle.programme.proofs.Held.{Holds, HoldsBody, HoldsAll}
-use Rattle.runner.specs.Held.{Named}
 use Rattle.runner.specs.Layout.{ExprAt, isLiteral, isRead, Head, size, CmdAt, isSkip, isAssign, isSeq, isIf, isWhile, CmdsAt, none, more}
 
 -- what a byte that was sorted is
@@ -85,21 +84,16 @@ unfolding Post
 post-both P P′ Q Q′ (ok a) p q = (p, q)
 post-both P P′ Q Q′ (refuse e) p q = tt
 
--- a well-formed view names a slot that is held
-pub named : (m : ℕ) (v : Value) → m ≤ mostSlots → wellFormed m v ≡ true → Named (v .kind) (v .payload)
-named m v few h =
-    record { reads = λ k. omega (arith, read-inside m v h k); writes = λ k. omega (arith, write-inside m v h k) }
-
 module _ (m : ℕ) (few : m ≤ mostSlots) (s : List ℕ) where
   abbrev ValueStands : ℕ → Read Value → Type 0
-  ValueStands at r = (r .tree ≡ valueAt s at) × Named (r .tree .kind) (r .tree .payload) × (r .next ≡ at + valueWidth) × (r .next ≤ length s)
+  ValueStands at r = (r .tree ≡ valueAt s at) × (wellFormed mostSlots (r .tree) ≡ true) × (r .next ≡ at + valueWidth) × (r .next ≤ length s)
 
   value-stands : (at : ℕ) → Post (ValueStands at) Any (readValue m s at)
   unfolding readValue
   value-stands at =
       post-require _ _ _ _ _
       (λ _. post-require _ _ _ _ _
-      (λ _. post-require _ _ _ _ _ (λ w. post-require _ _ _ _ _ (λ g. post-ok _ _ _ (refl, named m _ few g, refl, leb-true _ _ w)) (λ _. tt)) (λ _. tt))
+      (λ _. post-require _ _ _ _ _ (λ w. post-require _ _ _ _ _ (λ g. post-ok _ _ _ (refl, formed-more m _ g mostSlots few, refl, leb-true _ _ w)) (λ _. tt)) (λ _. tt))
       (λ _. tt))
       (λ _. tt)
 

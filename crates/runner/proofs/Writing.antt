@@ -1,17 +1,18 @@
 -- A held store after a write: only the written slot's row changes. Assumes nothing.
 use Prim.Native.Nat.{ℕ, zero, suc, _<_}
 use mathlib.Core.Path.{_≡_, refl, sym, ap, ap₂, _∙_}
+use mathlib.Core.Bool.{true}
 use mathlib.Core.List.{List, [], _∷_}
 use native.Mathlib.Omega.{arith}
 use native.Mathlib.Decide.{ℕ-discrete}
 use lib.ListN.{getD, set, length-set}
 use lib.Seq.{getD-set-same, getD-set-other}
 use Rattle.store.specs.Bytes.{table}
-use Rattle.store.specs.Value.{Slot, assigned, emptySlot}
+use Rattle.store.specs.Value.{wellFormed, Slot, assigned, emptySlot}
 use Rattle.store.specs.Sheet.{Tables, ownerOf, mostSlots}
 use Rattle.store.specs.Held.{rowOf, heldOf}
-use Rattle.calculus.specs.Calculus.{Store, Write, written}
-use Rattle.runner.specs.Held.{Named, StoreHeld}
+use Rattle.calculus.specs.Calculus.{Store, contents, Write, written}
+use Rattle.runner.specs.Held.{StoreHeld}
 
 module _ {A : Type 0} where
   table-same : (n : ℕ) (f g : ℕ → A) → ((k : ℕ) → f k ≡ g k) → table n f ≡ table n g
@@ -30,7 +31,7 @@ module _ {A : Type 0} where
       (table-set n (λ j. f (suc j)) (λ j. g (suc j)) i a (λ k e. h (suc k) (λ d. e (omega arith))) q)
 
 module _ (w : Tables) (s : Store) (x : Write) (rows : List (List ℕ)) (h : StoreHeld w s rows) (i k p o : ℕ)
-    (named : Named k p) (slot : x .slot ≡ i) (kind : x .value .kind ≡ k) (payload : x .value .payload ≡ p) (owner : ownerOf w i ≡ o) where
+    (formed : wellFormed mostSlots (x .value) ≡ true) (slot : x .slot ≡ i) (kind : x .value .kind ≡ k) (payload : x .value .payload ≡ p) (owner : ownerOf w i ≡ o) where
   after : Store
   after = set s i (assigned (x .value) (getD s i emptySlot))
 
@@ -38,14 +39,18 @@ module _ (w : Tables) (s : Store) (x : Write) (rows : List (List ℕ)) (h : Stor
   unfolding written after
   written-at = rw slot
 
-  after-named : i < mostSlots → (j : ℕ) → let v = getD after j emptySlot .value in Named (v .kind) (v .payload)
+  after-formed : i < mostSlots → (j : ℕ) → wellFormed mostSlots (contents after j) ≡ true
   unfolding after assigned
-  after-named l j = go (ℕ-discrete j i)
+  after-formed l j = go (ℕ-discrete j i)
     where
-      go : Dec (j ≡ i) → let v = getD after j emptySlot .value in Named (v .kind) (v .payload)
+      formed-as : (y : Slot) → getD after j emptySlot ≡ y → wellFormed mostSlots (y .value) ≡ true → wellFormed mostSlots (contents after j) ≡ true
+      formed-as y e q = ap (λ (z : Slot). wellFormed mostSlots (z .value)) e ∙ q
+
+      go : Dec (j ≡ i) → wellFormed mostSlots (contents after j) ≡ true
       go (yes e) =
-          rw (e, getD-set-same s i (assigned (x .value) (getD s i emptySlot)) emptySlot (omega (arith, h .size)), kind, payload) named
-      go (no e) = rw (getD-set-other s i j (assigned (x .value) (getD s i emptySlot)) emptySlot e) (h .named j)
+          formed-as (assigned (x .value) (getD s i emptySlot))
+          (ap (λ (n : ℕ). getD after n emptySlot) e ∙ getD-set-same s i _ emptySlot (omega (arith, h .size))) formed
+      go (no e) = formed-as (getD s j emptySlot) (getD-set-other s i j _ emptySlot e) (h .formed j)
 
   pub put-inside : i < mostSlots → StoreHeld w (written x s) (set rows i (k ∷ p ∷ o ∷ []))
   unfolding heldOf rowOf assigned after
@@ -57,5 +62,5 @@ module _ (w : Tables) (s : Store) (x : Write) (rows : List (List ℕ)) (h : Stor
             table-set mostSlots _ _ i _
             (λ j e. ap (λ (y : Slot). rowOf y (ownerOf w j)) (sym (getD-set-other s i j _ emptySlot e)))
             (rw (getD-set-same s i (assigned (x .value) (getD s i emptySlot)) emptySlot (omega (arith, h .size)), kind, payload, owner));
-        named = after-named l;
+        formed = after-formed l;
       })

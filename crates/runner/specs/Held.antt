@@ -3,24 +3,19 @@ use Prim.Native.Nat.{ℕ, _≤_, _<_}
 use mathlib.Core.Path.{_≡_}
 use mathlib.Core.Bool.{Bool, true, false, not}
 use mathlib.Core.List.{List}
-use lib.ListN.{length, getD}
+use lib.ListN.{length}
 use lib.Dec.{eqb}
 use Rattle.lattice.specs.declared.Table.{Table}
-use Rattle.lattice.specs.Order.{Label, mask, good, top}
+use Rattle.lattice.specs.Order.{Label, mask, top}
 use Rattle.store.specs.Result.{Result, ok, refuse, require}
-use Rattle.store.specs.Value.{readView, writeView, emptySlot}
+use Rattle.store.specs.Value.{wellFormed}
 use Rattle.store.specs.Sheet.{Tables, ownerOf, mostSlots}
-use Rattle.store.specs.Held.{heldOf}
+use Rattle.store.specs.Held.{Ordered, heldOf}
 use Rattle.calculus.specs.Rules.{RuleSet, accessControl, capability, explicitProvenance, fullProvenance, judgesViews, judgesRegion}
-use Rattle.calculus.specs.Calculus.{Setting, Store, Labelled, Judged, Write}
+use Rattle.calculus.specs.Calculus.{Setting, Store, contents, Labelled, Judged, Write}
 use Rattle.calculus.specs.Blocks.{mostBudget}
 use Rattle.runner.specs.Answers.{Got, Ruling, Making}
 use Rattle.runner.specs.declared.Terms.{Terms}
-
--- a view names a slot that is held
-pub record Named (kind payload : ℕ) : Type 0 where
-  pub reads : kind ≡ readView → payload < mostSlots
-  pub writes : kind ≡ writeView → payload < mostSlots
 
 -- a label is held as its principal's mask
 pub record LabelHeld (t : Table) (l : Label) (x : ℕ) : Type 0 where
@@ -44,14 +39,9 @@ judgesBranch fullProvenance = true
 unfoldable pub unspent : {A : Type 0} → Setting → ℕ → Result ℕ A → Result ℕ A
 unspent w steps r = require (not (eqb steps (w .budget))) 17 r
 
--- good tables: what the checks of a store sheet leave
-pub record Grounds (w : Tables) : Type 0 where
-  pub order : good (w .order) ≡ true
-  pub owners : (i : ℕ) → ownerOf w i < w .order .n
-
 -- what a block runs under, as the machine holds it
 pub record Serves (w : Setting) (t : Terms) (held : List ℕ) : Type 0 where
-  pub grounds : Grounds (w .tables)
+  pub grounds : Ordered (w .tables)
   pub masks : w .tables .order .masks ≡ held
   pub region : LabelHeld (w .tables .order) (w .header .region) (t .region)
   pub top : LabelHeld (w .tables .order) (top (w .tables .order)) (t .top)
@@ -63,17 +53,17 @@ pub record Serves (w : Setting) (t : Terms) (held : List ℕ) : Type 0 where
   pub budget : t .budget ≡ w .budget
   pub modest : w .budget ≤ mostBudget
 
--- a store is held as rows
+-- a store is held as rows; its views name slots that are held
 pub record StoreHeld (w : Tables) (s : Store) (rows : List (List ℕ)) : Type 0 where
   pub size : length s ≡ mostSlots
   pub same : rows ≡ heldOf w s
-  pub named : (i : ℕ) → let v = getD s i emptySlot .value in Named (v .kind) (v .payload)
+  pub formed : (i : ℕ) → wellFormed mostSlots (contents s i) ≡ true
 
 -- a value with its label
 pub record ValueHeld (t : Table) (x : Labelled) (k p l : ℕ) : Type 0 where
   pub kind : x .value .kind ≡ k
   pub payload : x .value .payload ≡ p
-  pub named : Named k p
+  pub formed : wellFormed mostSlots (x .value) ≡ true
   pub label : LabelHeld t (x .label) l
 
 -- what an expression's, a guard's and an assignment's answer mean
@@ -87,7 +77,7 @@ pub data JudgedAs (t : Table) : Ruling → Result ℕ Judged → Type 0 where
   refuses : {n : ℕ} → JudgedAs t (Ruling.Refused n) (refuse n)
 
 pub data MadeAs (w : Tables) : Making → Result ℕ Write → Type 0 where
-  writes : {i k p o : ℕ} {x : Write} → i < mostSlots → Named k p → x .slot ≡ i → x .value .kind ≡ k → x .value .payload ≡ p → ownerOf w i ≡ o → MadeAs w (Making.Write i k p o) (ok x)
+  writes : {i k p o : ℕ} {x : Write} → i < mostSlots → wellFormed mostSlots (x .value) ≡ true → x .slot ≡ i → x .value .kind ≡ k → x .value .payload ≡ p → ownerOf w i ≡ o → MadeAs w (Making.Write i k p o) (ok x)
   refuses : {n : ℕ} → MadeAs w (Making.Refused n) (refuse n)
 
 -- the machine can judge: some setting and store stand behind its numbers

@@ -1,13 +1,14 @@
 -- Where a tree that was read stands in the code bytes, and in the side table of ends. Assumes nothing.
 use Prim.Native.Nat.{ℕ, _+_, _≤_, _<_}
 use mathlib.Core.Path.{_≡_}
+use mathlib.Core.Bool.{true}
 use mathlib.Core.List.{List}
 use lib.ListN.{length, getD}
 use Rattle.store.specs.declared.Value.{Value}
-use Rattle.store.specs.Value.{valueWidth, valueAt}
+use Rattle.store.specs.Value.{valueWidth, wellFormed, valueAt}
+use Rattle.store.specs.Sheet.{mostSlots}
 use Rattle.programme.specs.Syntax.{Expr, literal, read, Cmd, cmd, skip, assign, seq, if, while, Cmds, nil, cons}
 use Rattle.programme.specs.Code.{mostDeep}
-use Rattle.runner.specs.Held.{Named}
 
 -- how many reads stand around an expression's literal
 unfoldable pub readsOf : Expr → ℕ
@@ -16,7 +17,7 @@ readsOf (read e) = readsOf e + 1
 
 -- the expression stands from `at` up to `end`
 pub data ExprAt (code : List ℕ) : Expr → ℕ → ℕ → Type 0 where
-  isLiteral : {v : Value} {at end : ℕ} → getD code at 0 ≡ 0x10 → v ≡ valueAt code (at + 1) → Named (v .kind) (v .payload) → end ≡ at + 1 + valueWidth → end ≤ length code → ExprAt code (literal v) at end
+  isLiteral : {v : Value} {at end : ℕ} → getD code at 0 ≡ 0x10 → v ≡ valueAt code (at + 1) → wellFormed mostSlots v ≡ true → end ≡ at + 1 + valueWidth → end ≤ length code → ExprAt code (literal v) at end
   isRead : {e : Expr} {at end : ℕ} → getD code at 0 ≡ 0x11 → ExprAt code e (at + 1) end → ExprAt code (read e) at end
 
 -- some expression stands at `at`

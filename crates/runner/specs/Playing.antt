@@ -8,7 +8,7 @@ use Rattle.lattice.specs.declared.Table.{Table}
 use Rattle.store.specs.Result.{Result, ok, refuse}
 use Rattle.store.specs.declared.Opened.{Opened}
 use Rattle.store.specs.Sheet.{Tables, Opening, mostSlots}
-use Rattle.store.specs.Held.{openedOf}
+use Rattle.store.specs.Held.{Ordered, openedOf}
 use Rattle.programme.specs.declared.Header.{Header}
 use Rattle.programme.specs.Syntax.{Cmd}
 use Rattle.programme.specs.Code.{readBlock}
@@ -22,7 +22,7 @@ use Rattle.runner.specs.declared.Ran.{Ran}
 use Rattle.runner.specs.declared.Ran.the-variants.{Done, Stopped}
 use Rattle.runner.specs.declared.Ended.{Ended}
 use Rattle.runner.specs.declared.Ended.the-variants.{Finished, Halted}
-use Rattle.runner.specs.Held.{judgesLabels, judgesBranch, Grounds, StoreHeld}
+use Rattle.runner.specs.Held.{judgesLabels, judgesBranch, StoreHeld}
 use Rattle.runner.specs.Moves.{StateHeld}
 
 -- what a rule set judges; nothing where there is none
@@ -33,7 +33,7 @@ judgesOf (refuse e) = record { known = false; views = false; regions = false; la
 
 -- what a block runs under, as the machine is told
 pub record Under (w : Setting) (t : Table) (j : Judges) (h : Header) (budget : ℕ) : Type 0 where
-  pub grounds : Grounds (w .tables)
+  pub grounds : Ordered (w .tables)
   pub order : w .tables .order ≡ t
   pub judges : j ≡ judgesOf (ok (w .rules))
   pub header : h ≡ w .header
@@ -56,7 +56,7 @@ pub record CanPlay (code : List ℕ) (h : Header) (slots : ℕ) (ends : List ℕ
 
 -- a programme that was judged, and what it is played under
 pub record Plays (w : Tables) (rules : RuleSet) (budget : ℕ) (p : List ℕ) (k slots : ℕ) (t : Table) (j : Judges) : Type 0 where
-  pub grounds : Grounds w
+  pub grounds : Ordered w
   pub order : w .order ≡ t
   pub count : slots ≡ w .slots
   pub few : slots ≤ mostSlots
@@ -109,7 +109,7 @@ pub record CanPlayAt (p : List ℕ) (k i begin slots : ℕ) (ends : List ℕ) (r
 -- a store sheet that was opened
 pub record OpeningHeld (o : Opening) (t : Opened) (rows : List (List ℕ)) : Type 0 where
   pub opened : t ≡ openedOf (ok o)
-  pub grounds : Grounds (o .tables)
+  pub grounds : Ordered (o .tables)
   pub held : StoreHeld (o .tables) (o .store) rows
   pub small : o .tables .slots ≤ mostSlots
 

@@ -1,19 +1,20 @@
 // The step machine: runs one block in place over its code bytes, with an explicit stack of open commands.
 // Definitions in specs/, laws in proofs/.
 ghost use mathlib.Core.Path.{_≡_};
+ghost use mathlib.Core.Bool.{true};
 ghost use mathlib.Core.Logic.{_⊎_};
 ghost use mathlib.Core.List.{List, [], _∷_};
 ghost use Prim.Native.Nat.{ℕ, _+_, _*_, _≤_, _<_};
 ghost use lib.ListN.{length, getD, set};
 ghost use Rattle.lattice.specs.Order.{Label, bit, top, mostPrincipals};
-ghost use Rattle.store.specs.Value.{emptySlot, valueAt, valueWidth, slotWidth};
+ghost use Rattle.store.specs.Value.{writeView, wellFormed, emptySlot, valueAt, valueWidth, slotWidth};
 ghost use Rattle.store.specs.Sheet.{Tables, ownerOf, Opening, mostSlots};
 ghost use Rattle.store.specs.Held.{rowOf};
 ghost use Rattle.programme.specs.Syntax.{Expr, literal, Cmd};
 ghost use Rattle.calculus.specs.Rules.{labelsJudged, RuleSet, rulesOf};
-ghost use Rattle.calculus.specs.Calculus.{Setting, Store, Labelled, State, Write, mayHold, fetch, eval, judge, permit, assignment, reliable, written, exec};
+ghost use Rattle.calculus.specs.Calculus.{Setting, Store, Labelled, State, Write, mayHold, eval, judge, permit, assignment, reliable, written, exec};
 ghost use Rattle.runner.specs.Layout.{ExprAt, ExprIn, ExprTo, TwoExprs, CmdAt, readsOf};
-ghost use Rattle.runner.specs.Held.{Named, LabelHeld, Serves, StoreHeld, ValueHeld, EvaluatedAs, JudgedAs, MadeAs, CanJudge, unspent};
+ghost use Rattle.runner.specs.Held.{LabelHeld, Serves, StoreHeld, ValueHeld, EvaluatedAs, JudgedAs, MadeAs, CanJudge, unspent};
 ghost use Rattle.runner.specs.Answers.{Got, got, Ruling, ruling, Making, making, Control, control};
 ghost use Rattle.runner.specs.Moves.{labelIn, StateHeld, RanAs, Entered, Left, CanEnter, CanGoOn, CanRun};
 ghost use Rattle.store.specs.Result.{Result, ok, unplaced};
@@ -153,7 +154,7 @@ fn admitted(
     kind: u64,
     payload: u64,
 ) -> bool
-    requires { ⌜ CanJudge terms (now masks) (now held) × Named kind payload ⌝ }
+    requires { ⌜ CanJudge terms (now masks) (now held) × (kind ≡ writeView → payload < mostSlots) ⌝ }
     ensures { λ r. ⌜ ((w : Setting) (s : Store) → Serves w terms (now (masks .entry)) → StoreHeld (w .tables) s (now (held .entry)) → r ≡ mayHold w (record { kind = kind; payload = payload })) ⌝ }
 {
     let views = terms.views;
@@ -422,7 +423,7 @@ fn wide16(x: u16) -> usize
 // Puts what an assignment writes into its slot's row.
 fn put(held: &mut [[u64; 3]; 256], slot: u64, kind: u64, payload: u64, owner: u64)
     requires { ⌜ slot < mostSlots ⌝ }
-    ensures { λ r. ⌜ ((w : Tables) (s : Store) (x : Write) → StoreHeld w s (now (held .entry)) → Named kind payload → x .slot ≡ slot → x .value .kind ≡ kind → x .value .payload ≡ payload → ownerOf w slot ≡ owner → StoreHeld w (written x s) (now (held .exit))) ⌝ }
+    ensures { λ r. ⌜ ((w : Tables) (s : Store) (x : Write) → StoreHeld w s (now (held .entry)) → wellFormed mostSlots (x .value) ≡ true → x .slot ≡ slot → x .value .kind ≡ kind → x .value .payload ≡ payload → ownerOf w slot ≡ owner → StoreHeld w (written x s) (now (held .exit))) ⌝ }
 {
     let i = slot as usize;
     held[i] = [kind, payload, owner];

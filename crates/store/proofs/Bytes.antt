@@ -2,14 +2,16 @@
 use Prim.Native.Nat.{ℕ, zero, suc, _+_, _*_, _/_, _%_, _^_, _≤_, _<_}
 use mathlib.Core.Path.{_≡_, refl, ap, ap₂, _∙_}
 use mathlib.Core.Bool.{true}
+use mathlib.Core.Logic.{_⊎_, inl, inr, ⊎-elim}
 use mathlib.Core.List.{List, _∷_}
 use native.Mathlib.Nat.{pow-suc, div-lt-iff-lt-mul}
 use native.Mathlib.Numerals.{add-one}
 use native.Mathlib.Omega.{arith}
 use lib.ListN.{length, getD, drop, length-append}
 use lib.Seq.{getD-take, getD-drop}
-use borrow.Author.Tests.{ltb-true}
+use borrow.Author.Tests.{ltb-true, lt-ltb}
 use Rattle.lattice.specs.Tests.{_and_, _or_}
+use Rattle.lattice.proofs.Tests.{and-l, and-r, and-of, or-at, or-l, or-r}
 use Rattle.store.specs.Bytes.{numberAt, numberBytes, part}
 use Rattle.store.specs.declared.Value.{Value}
 use Rattle.store.specs.Value.{payloadWidth, valueWidth, readView, writeView, viewed, wellFormed, valueAt, valueBytes, Slot, emptySlot, slotWidth, slotBytes}
@@ -69,12 +71,16 @@ value-part s at n q =
     ap₂ (λ (k p : ℕ). record { kind = k; payload = p })
     (getD-take n (drop at s) 0 0 (omega arith) ∙ getD-drop at s 0 0 ∙ ap (λ (j : ℕ). getD s j 0) (omega arith)) (number-part payloadWidth n s at 1 (omega arith))
 
--- a view that is well-formed names one of the m slots
 module _ (m : ℕ) (v : Value) (h : wellFormed m v ≡ true) where
-  pub read-inside : v .kind ≡ readView → viewed v < m
+  -- a view that is well-formed names one of the m slots
+  pub view-inside : (v .kind ≡ readView) ⊎ (v .kind ≡ writeView) → viewed v < m
   unfolding wellFormed _and_ _or_
-  read-inside k = ltb-true _ _ (rw k at h)
+  view-inside (inl k) = ltb-true _ _ (rw k at h)
+  view-inside (inr k) = ltb-true _ _ (rw k at h)
 
-  pub write-inside : v .kind ≡ writeView → viewed v < m
-  unfolding wellFormed _and_ _or_
-  write-inside k = ltb-true _ _ (rw k at h)
+  -- a value that is well-formed is so among more slots
+  pub formed-more : (n : ℕ) → m ≤ n → wellFormed n v ≡ true
+  unfolding wellFormed
+  formed-more n l =
+      ⊎-elim (λ i. or-l _ _ i) (λ s. or-r _ _ (and-of _ _ (and-l _ _ s) (lt-ltb (viewed v) n (omega (arith, ltb-true (viewed v) m (and-r _ _ s))))))
+      (or-at _ _ h)

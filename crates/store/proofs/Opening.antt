@@ -16,7 +16,8 @@ use Rattle.lattice.proofs.Tests.{and-l, and-r}
 use Rattle.store.specs.Result.{Result, inTurn}
 use Rattle.store.specs.Bytes.{Bytes, part, table, filled}
 use Rattle.store.specs.Value.{payloadWidth, wellFormed, valueAt, Slot, opened, emptySlot, slotWidth, slotBytes}
-use Rattle.store.specs.Sheet.{Tables, Opening, ownerOf, mostSlots, nOf, mOf, ownerAt, slotValueAt, orderOf, tablesOf, openingOf, Form, storeForm, valueGood, slotChecked, bodyChecked, sheetChecked, sizesAllowed, storeSheet, slotsBytes}
+use Rattle.store.specs.Sheet.{Opening, ownerOf, mostSlots, nOf, mOf, ownerAt, slotValueAt, orderOf, tablesOf, openingOf, Form, storeForm, valueGood, slotChecked, bodyChecked, sheetChecked, sizesAllowed, storeSheet, slotsBytes}
+use Rattle.store.specs.Held.{Ordered}
 use Rattle.store.proofs.Result.{Post, Positive, post-ok, post-map, post-require, post-bind}
 use Rattle.store.proofs.Fill.{pick, length-filled, entry-at, filled-at}
 use Rattle.store.proofs.Numbers.{number-lt}
@@ -71,11 +72,6 @@ sheet-checked f s =
       values = λ i h. slots i h .1;
     }) (λ _ q. q))
     (λ _. omega arith)) (λ _. omega arith)) (λ _. omega arith)) (λ _. omega arith)
-
--- an order table and owners that the laws of the lattice hold of
-pub record Ordered (w : Tables) : Type 0 where
-  pub table : good (w .order) ≡ true
-  pub owners : (i : ℕ) → ownerOf w i < w .order .n
 
 -- what an opening is where its sheet s is not refused
 pub record Opens (s : List ℕ) (o : Opening) : Type 0 where

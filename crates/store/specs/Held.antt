@@ -1,11 +1,12 @@
 -- How the code holds a store, and what its calls answer. Assumes nothing.
-use Prim.Native.Nat.{ℕ, zero, suc, _+_, _*_, _%_, _≤_}
+use Prim.Native.Nat.{ℕ, zero, suc, _+_, _*_, _%_, _≤_, _<_}
 use mathlib.Core.Path.{_≡_}
+use mathlib.Core.Bool.{true}
 use mathlib.Core.List.{List, [], _∷_, _++_}
 use lib.ListN.{getD, replicate}
 use lib.Dec.{leb, eqb}
 use Rattle.lattice.specs.Tests.{_and_}
-use Rattle.lattice.specs.Order.{Label, mostPrincipals}
+use Rattle.lattice.specs.Order.{Label, mostPrincipals, good}
 use Rattle.store.specs.declared.Opened.{Opened}
 use Rattle.store.specs.Result.{Result, ok, refuse, require}
 use Rattle.store.specs.Bytes.{numberBytes, table}
@@ -19,6 +20,11 @@ pub record Sized (s : List ℕ) (n m : ℕ) : Type 0 where
   pub some : 1 ≤ n
   pub few : n ≤ mostPrincipals
   pub small : m ≤ mostSlots
+
+-- good tables: what the checks of a store sheet leave
+pub record Ordered (w : Tables) : Type 0 where
+  pub table : good (w .order) ≡ true
+  pub owners : (i : ℕ) → ownerOf w i < w .order .n
 
 -- the number of a check's refusal, or 0
 unfoldable pub refusalOf : {A : Type 0} → Result ℕ A → ℕ

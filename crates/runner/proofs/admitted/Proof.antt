@@ -12,7 +12,7 @@ returns-2 : tie.Need-returns-2
 returns-2 c w s v h = no-view w _ _ (c .if2 .taken)
 
 row-of-requires : tie.Need-row-of-requires
-row-of-requires c κs = c .before .before .pre .1 .writes (c .if2 .left)
+row-of-requires c κs = c .before .before .pre .1 (c .if2 .left)
 
 array-read-at-or-above : tie.Need-array-read-at-or-above
 array-read-at-or-above c = search needs

@@ -1,6 +1,7 @@
 use borrow.Author.Needs.{needs}
 use Prim.Native.Nat.{ℕ, _+_}
 use mathlib.Core.Path.{sym}
+use mathlib.Core.Logic.{inr}
 use native.Mathlib.Omega.{arith}
 use denote.Ref.{now}
 use Rattle.store.specs.Value.{valueWidth}
@@ -9,7 +10,8 @@ use Rattle.calculus.specs.Calculus.{Setting, Store, assignment, eval}
 use Rattle.runner.specs.Layout.{ExprAt, ExprIn, ExprTo}
 use Rattle.runner.specs.Answers.{got}
 use Rattle.runner.specs.Held.{Serves, StoreHeld, EvaluatedAs, MadeAs}
-use Rattle.runner.proofs.Scan.{found}
+use Rattle.runner.proofs.Scan.{literal-found}
+use Rattle.runner.proofs.Rows.{view-held}
 use Rattle.runner.proofs.Chain.{literal-in, gave}
 use Rattle.runner.proofs.Answered.{got-value, got-refused}
 use Rattle.runner.proofs.Judging.{spent, unspent-is, assign-refused, assign-kind, assign-value-refused, assign-judged}
@@ -31,7 +33,7 @@ entry c = c .before .before .before
 
 -- where the target's literal stands, and what the target was evaluated to
 first-to : (c : tie.After-literal-at) → ExprTo (now (entry c .args .code)) (entry c .args .at) (c .literal-at .result)
-first-to c = found _ _ _ (entry c .pre .1 .first) (c .literal-at .ensures)
+first-to c = literal-found _ _ _ (entry c .pre .1 .first) (c .literal-at .ensures)
 
 eval-requires : tie.Need-eval-requires
 eval-requires c κs = (entry c .pre .0, first-to c)
@@ -80,7 +82,7 @@ literal-at-requires-2 c κs = second-in c
 
 eval-requires-2 : tie.Need-eval-requires-2
 eval-requires-2 c κs =
-    (entry (c .before .before .before .before) .pre .0, found _ _ _ (second-in (c .before)) (c .literal-at2 .ensures))
+    (entry (c .before .before .before .before) .pre .0, literal-found _ _ _ (second-in (c .before)) (c .literal-at2 .ensures))
 
 abbrev first : tie.After-eval2 → tie.Start
 first c = entry (c .before .before .before .before .before)
@@ -111,7 +113,7 @@ permit-requires c κs =
     let j = entry (a .before) .pre .0 in
     let f = entry (a .before) .pre .1 .first in
     let t = target a (j .setting) (j .store) (f .expr) (f .end) (j .serves) (j .held) (f .stands) in
-    (j, gave (rw (got-value (a .eval .result) (d .before .if2 .left)) at t) .held .named .writes (d .if3 .left))
+    (j, view-held (gave (rw (got-value (a .eval .result) (d .before .if2 .left)) at t) .held) (inr (d .if3 .left)))
 
 returns-5 : tie.Need-returns-5
 returns-5 c w s x y mid end b v h p q l =

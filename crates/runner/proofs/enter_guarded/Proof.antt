@@ -1,7 +1,7 @@
 -- One case for a guard that is refused, that passes, and, where it fails, for a while and for an if. Assumes nothing.
 use borrow.Author.Needs.{needs}
 use native.Mathlib.Omega.{arith}
-use Rattle.runner.proofs.Scan.{found}
+use Rattle.runner.proofs.Scan.{literal-found}
 use Rattle.runner.proofs.Answered.{ruling-passes, ruling-fails, ruling-refused}
 use Rattle.runner.proofs.Moving.{sizes, can-judge, guarded, no-while, guard-inside, guard-passes, guard-refused, while-fails, if-fails}
 use Rattle.runner.proofs.enter_guarded.Statement.{statement}
@@ -16,7 +16,7 @@ literal-at-requires c κs = let p = c .before .pre in guarded (p .0) (p .1)
 judge-requires : tie.Need-judge-requires
 judge-requires c κs =
     let p = c .before .before .pre in
-    (can-judge (p .0), found _ _ _ (guarded (p .0) (p .1)) (c .literal-at .ensures))
+    (can-judge (p .0), literal-found _ _ _ (guarded (p .0) (p .1)) (c .literal-at .ensures))
 
 stopped-at-requires : tie.Need-stopped-at-requires
 stopped-at-requires c κs = omega (arith, c .if1 .taken)

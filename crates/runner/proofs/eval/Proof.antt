@@ -1,6 +1,7 @@
 use borrow.Author.Needs.{needs}
 use Prim.Native.Nat.{ℕ, _+_, _-_}
 use mathlib.Core.Path.{_≡_, refl}
+use mathlib.Core.Logic.{inl, inr}
 use native.Mathlib.Omega.{arith}
 use borrow.Author.Tests.{not-true, not-false}
 use Rattle.programme.specs.Syntax.{Expr}
@@ -9,6 +10,7 @@ use Rattle.runner.specs.Layout.{readsOf, ExprAt}
 use Rattle.runner.specs.Answers.{gotBy}
 use Rattle.runner.specs.Held.{Serves, StoreHeld}
 use Rattle.runner.proofs.Admission.{owner-in}
+use Rattle.runner.proofs.Rows.{view-held}
 use Rattle.runner.proofs.Chain.{literal-in, Ready, ready-all, ready-barred, ready-done, ready-kind, ready-next}
 use Rattle.runner.proofs.eval.Statement.{statement}
 use Rattle.runner.proofs.eval.Tie as tie
@@ -44,7 +46,7 @@ ready c =
     c .loop .inv (p .0 .setting) (p .0 .store) (x .expr) (x .end) (p .0 .serves) (p .0 .held) (x .stands) (p .1 .reads)
 
 admitted-requires : tie.Need-admitted-requires Inv-loop μ-loop
-admitted-requires c κs = (entry c .pre .0, ready c .held .named)
+admitted-requires c κs = (entry c .pre .0, λ k. view-held (ready c .held) (inr k))
 
 refused-value-requires : tie.Need-refused-value-requires Inv-loop μ-loop
 refused-value-requires c κs = search needs
@@ -73,7 +75,7 @@ returns-3 c w s e end v h x q =
     (c .before .if3 .taken))
 
 row-of-requires : tie.Need-row-of-requires Inv-loop μ-loop
-row-of-requires c κs = ready (c .before .before .before .before) .held .named .reads (c .if3 .left)
+row-of-requires c κs = view-held (ready (c .before .before .before .before) .held) (inl (c .if3 .left))
 
 array-read-owner : tie.Need-array-read-owner Inv-loop μ-loop
 array-read-owner c = search needs

@@ -1,5 +1,4 @@
 use borrow.Author.Needs.{needs}
-use native.Mathlib.Omega.{arith}
 use Rattle.runner.proofs.Writing.{put-inside}
 use Rattle.runner.proofs.put.Statement.{statement}
 use Rattle.runner.proofs.put.Tie as tie
@@ -11,7 +10,7 @@ element-set-from-held : tie.Need-element-set-from-held
 element-set-from-held c = search needs
 
 returns : tie.Need-returns
-returns c = λ w s x h named slot kind payload owner. put-inside w s x _ h _ _ _ _ named slot kind payload owner (c .pre)
+returns c = λ w s x h formed slot kind payload owner. put-inside w s x _ h _ _ _ _ formed slot kind payload owner (c .pre)
 
 pub put-spec : {M : Type 1} → statement M
 put-spec = tie.close (tie.spec mul-t8 element-set-from-held returns)
