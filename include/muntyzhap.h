@@ -79,7 +79,7 @@ extern "C" {
 #define MUNTYZHAP_CAPABILITY 1
 #define MUNTYZHAP_EXPLICIT_PROVENANCE 2
 #define MUNTYZHAP_FULL_PROVENANCE 3
-/* The house rule: access control. */
+/* The house rule: full provenance. */
 #define MUNTYZHAP_HOUSE 255
 
 /* Limits */

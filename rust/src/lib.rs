@@ -1,7 +1,8 @@
-//! The second runner: document 01 read a second time, in plain Rust.
+//! The second runner: document 01, and 02 where it changes 01, read a second
+//! time, in plain Rust.
 //!
-//! It is written from document 01 alone and kept apart from the proved runner,
-//! so that the two can be compared on random inputs. Sheets become syntax
+//! It is written from these alone and kept apart from the proved runner, so
+//! that the two can be compared on random inputs. Sheets become syntax
 //! trees, and running a programme is recursion over them.
 //!
 //! No input makes it panic: sheets are judged before they are used, and the

@@ -45,15 +45,15 @@ impl RuleSet {
     const CAPABILITY: u8 = 1;
     const EXPLICIT_PROVENANCE: u8 = 2;
     const FULL_PROVENANCE: u8 = 3;
-    /// "Rule 255, the house rule, is rule 0."
+    /// "Rule 255 is to mean rule 3." (document 02, N1)
     const HOUSE: u8 = 255;
 
     pub fn from_number(number: u8) -> Option<RuleSet> {
         match number {
-            RuleSet::ACCESS_CONTROL | RuleSet::HOUSE => Some(RuleSet::AccessControl),
+            RuleSet::ACCESS_CONTROL => Some(RuleSet::AccessControl),
             RuleSet::CAPABILITY => Some(RuleSet::Capability),
             RuleSet::EXPLICIT_PROVENANCE => Some(RuleSet::ExplicitProvenance),
-            RuleSet::FULL_PROVENANCE => Some(RuleSet::FullProvenance),
+            RuleSet::FULL_PROVENANCE | RuleSet::HOUSE => Some(RuleSet::FullProvenance),
             _ => None,
         }
     }

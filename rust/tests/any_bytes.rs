@@ -353,7 +353,7 @@ fn what_finishes_under_a_stricter_rule_finishes_alike_under_a_milder() {
                 finished[at] += 1;
             }
         }
-        assert_eq!(call.rule(255).play(), call.rule(0).play());
+        assert_eq!(call.rule(255).play(), call.rule(3).play());
     }
     assert!(finished.iter().all(|count| *count > 0));
 }

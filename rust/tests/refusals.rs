@@ -45,14 +45,18 @@ mod arguments {
     }
 
     #[test]
-    fn rule_255_is_rule_0() {
+    fn rule_255_is_rule_3() {
         let house = |store: &[u8], programme: &[u8]| call(store, programme, 255);
         let sheet = example_store();
-        house(&sheet, &example_programme([0, 1])).finishes(2, &[integer(42), integer(42)]);
+        house(&sheet, &example_programme([0, 1])).refused(16, 1, 0, 1);
+        house(&sheet, &example_programme([0, 0x81])).finishes(2, &[integer(42), integer(42)]);
         let high = programme(&[(0, set_integer(1, 9))]);
         house(&sheet, &high).refused(14, 0, 0, 0);
         let view = programme(&[(0, set(0, literal(write_view(1))))]);
         house(&sheet, &view).finishes(1, &[write_view(1), integer(7)]);
+        let flag = store(&PAIR, &[(0, truth(true)), (1, integer(7))]);
+        let branch = programme(&[(1, if_else(slot(0), set_integer(1, 41), skip()))]);
+        house(&flag, &branch).refused(16, 0, 1 + slot(0).len(), 1);
     }
 }
 

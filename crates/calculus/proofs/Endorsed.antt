@@ -21,9 +21,9 @@ use Rattle.programme.specs.Sheet.{headerOf, headerAt, startOf, headerGood, bloc
 use Rattle.calculus.specs.Rules.{rulesOf, judgesViews, judgesRegion, labelsJudged, allAbove}
 use Rattle.calculus.specs.Calculus.{Store, inRegion, admit, fetch, eval, authorised, reliable, permit, assignment, counted, written, performed, step, exec, execBody}
 use Rattle.calculus.specs.Blocks.{runBlocks, start}
-use Rattle.calculus.specs.Run.{runProgramme, runOpened, run, answerOf, outputOf}
+use Rattle.calculus.specs.Run.{runProgramme, runOpened, runUnder, run, answerOf, outputOf}
 use Rattle.calculus.specs.Vectors.{blank, int, writes, twoSlots, assign, read, one}
-use Rattle.calculus.specs.Isolation.{withinReach, StoresAgree, OutputsAgree, unchanged, Replacement, FullRun}
+use Rattle.calculus.specs.Isolation.{withinReach, StoresAgree, OutputsAgree, unchanged, Replacement, byNumber, FullRun}
 
 -- demand 3 with endorsed blocks let in
 abbrev pub EndorsedRunsAgree : Tables → Label → List ℕ → List ℕ → Type 0
@@ -68,7 +68,7 @@ pub record Example : Type 0 where
   pub right-run : FullRun right leaking (int 6 ++ int 6)
 
 pub example : Example
-unfolding runProgramme runOpened run answerOf outputOf
+unfolding runProgramme runOpened runUnder run answerOf outputOf
     _and_ _or_ _implies_ every some find bit inRange reflexive antisymmetric transitive isMeet hasMeets isTop hasTop good meet top
     _>>=_ require refusedAs inTurn numberAt numberBytes table filled wellFormed valueAt valueBytes opened assigned emptySlot slotBytes
     orderOf tablesOf openingOf valueWidthIn valueGood sizesAllowed slotChecked bodyChecked sheetChecked storeSheet slotsBytes
@@ -87,8 +87,8 @@ example =
       agreed = refl;
       outside = refl;
       endorsed = refl;
-      left-run = record { rule = 3; budget = 10; old = blank; full = refl; finishes = refl; ends = refl };
-      right-run = record { rule = 3; budget = 10; old = blank; full = refl; finishes = refl; ends = refl };
+      left-run = record { rule = 3; budget = 10; old = blank; full = byNumber refl; finishes = refl; ends = refl };
+      right-run = record { rule = 3; budget = 10; old = blank; full = byNumber refl; finishes = refl; ends = refl };
     }
 
 bytes-of : (s : List ℕ) → every (length s) (λ i. ltb (getD s i 0) 256) ≡ true → Bytes s

@@ -12,7 +12,7 @@ use Rattle.store.specs.Sheet.{slotsBytes}
 use Rattle.store.proofs.Result.{Post, post-at, post-refused, post-map}
 use Rattle.calculus.specs.Calculus.{State}
 use Rattle.calculus.specs.Blocks.{Halt, haltAnswer, mostBudget, start}
-use Rattle.calculus.specs.Run.{Finished, runProgramme, runOpened, run, answerOf, outputOf, answer, output}
+use Rattle.calculus.specs.Run.{Finished, runProgramme, runOpened, runUnder, run, answerOf, outputOf, answer, output}
 use Rattle.calculus.specs.Faithful.{Good, ownRun, Faithful, Faithfulness}
 use Rattle.calculus.proofs.Blocks.{run-counts}
 use Rattle.calculus.proofs.Refusals.{blocks-refuse}
@@ -20,7 +20,7 @@ use Rattle.calculus.proofs.Refusals.{blocks-refuse}
 module _ (store programme : List ℕ) (rule budget : ℕ) (old : List ℕ) (g : Good store programme rule budget (length old)) where
   -- with every check passed, a run is the blocks' run
   run-is : run store programme rule budget (length old) ≡ runProgramme (g .rules) budget (g .opening) (g .blocks)
-  unfolding run runOpened refusedAs require _>>=_
+  unfolding runUnder run runOpened refusedAs require _>>=_
   run-is =
       rw (g .ruled, le-leb budget mostBudget (g .modest), g .opens, g .taken, eq-eqb (length old) (slotWidth * g .opening .tables .slots) (g .fits))
 

@@ -10,13 +10,13 @@ use Rattle.store.proofs.Opening.{store-opens}
 use Rattle.programme.proofs.Refusals.{programme-refuses}
 use Rattle.calculus.specs.Blocks.{haltAnswer}
 use Rattle.calculus.proofs.Refusals.{rules-refuse, blocks-refuse}
-use Rattle.calculus.specs.Run.{Finished, runProgramme, runOpened, run, answerOf, answer}
+use Rattle.calculus.specs.Run.{Finished, runProgramme, runOpened, runUnder, run, answerOf, answer}
 
 abbrev Numbered : Answer → Type 0
 Numbered a = Positive (a .number)
 
 run-refuses : (store programme : List ℕ) (rule budget room : ℕ) → Refuses Numbered (run store programme rule budget room)
-unfolding runProgramme runOpened run unplaced haltAnswer
+unfolding runProgramme runOpened runUnder run unplaced haltAnswer
 run-refuses store programme rule budget room =
     refuses-bind _ _ _ (post-refused-as _ _ _ _ (rules-refuse rule)) λ rules.
     refuses-require _ _ _ _ (omega arith) (

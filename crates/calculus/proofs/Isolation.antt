@@ -28,10 +28,16 @@ use Rattle.calculus.specs.Calculus.{Store}
 use Rattle.calculus.specs.Blocks.{runBlocks, start}
 use Rattle.calculus.proofs.Taint.{Tainted, Agree}
 use Rattle.calculus.proofs.Noninterference.{Alike, Opposite, alike, reached, blocks-isolated}
-use Rattle.calculus.specs.Run.{Finished, runProgramme, runOpened, run, answerOf, outputOf, output}
+use Rattle.calculus.specs.Run.{Finished, runProgramme, runOpened, runUnder, run, answerOf, outputOf, output}
 use Rattle.calculus.specs.Vectors.{none}
-use Rattle.calculus.specs.Isolation.{withinReach, StoresAgree, Replaced, unchanged, exchanged, Replacement, NoneEndorsed, FullRun, RunsAgree, Isolation}
+use Rattle.calculus.specs.Isolation.{withinReach, StoresAgree, Replaced, unchanged, exchanged, Replacement, NoneEndorsed, FullRule, byNumber, byDefault, FullRun, RunsAgree, Isolation}
 use Rattle.calculus.proofs.Finished.{run-finished}
+
+-- each of the numbers stands for full provenance
+full-rules : (rule : ℕ) → FullRule rule → rulesOf rule ≡ ok fullProvenance
+unfolding rulesOf
+full-rules rule (byNumber e) = rw e
+full-rules rule (byDefault e) = rw e
 
 -- Blocks
 
@@ -82,11 +88,11 @@ module _ (w : Tables) (a : Label) where
         programmes₂ (Opposite w a) _ _ q q′ (r′ .count ∙ sym (r .count))
         (λ i l. let k : i < kOf p = rw (r .count) at l in opposite _ p q q′ i (bare i k) (r .each i k) (r′ .each i k))
 
-    runs₂ : (rule rule′ budget budget′ room room′ : ℕ) → rulesOf rule ≡ ok fullProvenance → rulesOf rule′ ≡ ok fullProvenance
+    runs₂ : (rule rule′ budget budget′ room room′ : ℕ) → FullRule rule → FullRule rule′
         → Post₂ Ends (run store q rule budget room) (run store′ q′ rule′ budget′ room′)
-    unfolding runProgramme runOpened run start _>>=_ refusedAs
+    unfolding runProgramme runOpened runUnder run start _>>=_ refusedAs
     runs₂ rule rule′ budget budget′ room room′ full full′ =
-        rw (full, full′) (post₂-require _ _ _ _ _ _ _ (
+        rw (full-rules rule full, full-rules rule′ full′) (post₂-require _ _ _ _ _ _ _ (
         rw (sheet, sheet′) (
         post₂-bind _ _ _ _ _ _ programmes-opposite λ bs cs k.
         post₂-require _ _ _ _ _ _ _ (
@@ -119,20 +125,20 @@ module _ (store : List ℕ) (w : Tables) (s : Store) (sheet : storeSheet store �
   blank = replicate (slotWidth * w .slots) 0
 
   run-none : (room : ℕ) → room ≡ slotWidth * w .slots → run store none 3 0 room ≡ ok ending
-  unfolding runProgramme runOpened run ending rulesOf _>>=_ require refusedAs programmeSheet numberAt every startOf blocksFrom runBlocks _and_
+  unfolding runProgramme runOpened runUnder run ending rulesOf _>>=_ require refusedAs programmeSheet numberAt every startOf blocksFrom runBlocks _and_
   run-none room e = rw (sheet, eq-eqb room (slotWidth * w .slots) e)
 
   blank-run : run store none 3 0 (length blank) ≡ ok ending
   blank-run = run-none (length blank) (length-replicate _ _)
 
   full-none : FullRun store none (output store none 3 0 blank)
-  unfolding rulesOf answerOf
+  unfolding answerOf
   full-none =
       record {
         rule = 3;
         budget = 0;
         old = blank;
-        full = refl;
+        full = byNumber refl;
         finishes = ap (λ (r : Result Answer Finished). answerOf r .number) blank-run;
         ends = refl;
       }

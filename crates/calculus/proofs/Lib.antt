@@ -9,6 +9,7 @@ pub mod Noninterference
 pub mod Finished
 pub mod Faithful
 pub mod Isolation
+pub mod RuleNumbers
 pub mod Endorsed
 pub mod Unrelated
 pub mod Vectors

@@ -15,7 +15,7 @@ use Rattle.programme.specs.Sheet.{headerOf, startOf, headerGood, blockAt, block
 use Rattle.calculus.specs.Rules.{rulesOf, judgesViews, judgesRegion, labelsJudged, allAbove}
 use Rattle.calculus.specs.Calculus.{inRegion, admit, fetch, eval, judge, authorised, reliable, permit, assignment, counted, written, performed, step, choose, loop, exec, execBody, execs}
 use Rattle.calculus.specs.Blocks.{haltAnswer, runBlocks, start}
-use Rattle.calculus.specs.Run.{runProgramme, runOpened, run, answerOf, outputOf, answer, output}
+use Rattle.calculus.specs.Run.{runProgramme, runOpened, runUnder, run, answerOf, outputOf, answer, output}
 use Rattle.calculus.specs.Vectors.{Vector, blank, vectors}
 
 -- what the definitions say of a vector's input
@@ -34,7 +34,7 @@ abbrev pub expected : Vector → Played
 expected v = record { said = v .answer; left = v .output }
 
 pub vectors-hold : map played vectors ≡ map expected vectors
-unfolding vectors runProgramme runOpened run answerOf outputOf
+unfolding vectors runProgramme runOpened runUnder run answerOf outputOf
     _and_ _or_ _implies_ every some find bit inRange reflexive antisymmetric transitive isMeet hasMeets isTop hasTop good meet top
     _>>=_ require refusedAs inTurn unplaced numberAt numberBytes table filled wellFormed valueAt valueBytes opened assigned emptySlot slotBytes
     orderOf tablesOf openingOf valueWidthIn valueGood sizesAllowed slotChecked bodyChecked sheetChecked storeSheet slotsBytes

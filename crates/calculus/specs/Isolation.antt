@@ -11,7 +11,6 @@ use Rattle.store.specs.Bytes.{Bytes, part}
 use Rattle.store.specs.Value.{slotWidth, emptySlot}
 use Rattle.store.specs.Sheet.{Tables, ownerOf, storeSheet}
 use Rattle.programme.specs.Sheet.{kOf, headerAt, codeOf}
-use Rattle.calculus.specs.Rules.{fullProvenance, rulesOf}
 use Rattle.calculus.specs.Calculus.{Store}
 use Rattle.calculus.specs.Run.{answer, output}
 
@@ -47,12 +46,18 @@ pub record Replacement (w : Tables) (adversary : Label) (p q : List ℕ) : Type 
 abbrev pub NoneEndorsed : List ℕ → Type 0
 NoneEndorsed p = (i : ℕ) → i < kOf p → headerAt p i .endorsed ≡ false
 
+-- the rule numbers of full provenance; of 255: "A desk run under 255 counts among the runs that protected slots are compared over."
+-- (document 02, N1)
+pub data FullRule (rule : ℕ) : Type 0 where
+  byNumber : rule ≡ 3 → FullRule rule
+  byDefault : rule ≡ 255 → FullRule rule
+
 -- one run under full provenance that finishes: "A run whose sheet or arguments are refused doesn't finish."
 pub record FullRun (store programme out : List ℕ) : Type 0 where
   pub rule : ℕ
   pub budget : ℕ
   pub old : List ℕ
-  pub full : rulesOf rule ≡ ok fullProvenance
+  pub full : FullRule rule
   pub finishes : answer store programme rule budget (length old) .number ≡ 0
   pub ends : out ≡ output store programme rule budget old
 

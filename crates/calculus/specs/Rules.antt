@@ -11,9 +11,9 @@ use Rattle.store.specs.Result.{Result, ok, refuse}
 pub data RuleSet : Type 0 where
   accessControl capability explicitProvenance fullProvenance : RuleSet
 
--- the rule set of the rule number 255: "Rule 255, the house rule, is rule 0."
+-- the rule set of the rule number 255, document 01's house rule: "Rule 255 is to mean rule 3." (document 02, N1)
 abbrev pub defaultRules : RuleSet
-defaultRules = accessControl
+defaultRules = fullProvenance
 
 -- "11 rule not 0, 1, 2, 3 or 255"
 unfoldable pub rulesOf : ℕ → Result ℕ RuleSet

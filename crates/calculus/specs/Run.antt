@@ -31,12 +31,16 @@ runOpened rules budget o programme room =
     programmeSheet (o .tables .order .n) (o .tables .slots) programme >>= λ blocks.
     require (eqb room (slotWidth * o .tables .slots)) (unplaced 12) (runProgramme rules budget o blocks)
 
--- "Order: 11; store sizes present (1), in limits (2), total length (1); 3; then slot by slot 4 before 5; programme .."
-unfoldable pub run : List ℕ → List ℕ → ℕ → ℕ → ℕ → Result Answer Finished
-run store programme rule budget room =
-    refusedAs unplaced (rulesOf rule) >>= λ rules.
+-- a run under a rule set: "Order: 11; store sizes present (1), in limits (2), total length (1); 3; then slot by slot 4 before 5;
+-- programme .."
+unfoldable pub runUnder : RuleSet → List ℕ → List ℕ → ℕ → ℕ → Result Answer Finished
+runUnder rules store programme budget room =
     require (leb budget mostBudget) (unplaced 11) (
     refusedAs unplaced (storeSheet store) >>= λ o. runOpened rules budget o programme room)
+
+-- a run under a rule number: "11 rule not 0, 1, 2, 3 or 255, or budget above 1,000,000"
+unfoldable pub run : List ℕ → List ℕ → ℕ → ℕ → ℕ → Result Answer Finished
+run store programme rule budget room = refusedAs unplaced (rulesOf rule) >>= λ rules. runUnder rules store programme budget room
 
 -- "Finished is 0, block k, offset 0."
 unfoldable pub answerOf : Result Answer Finished → Answer

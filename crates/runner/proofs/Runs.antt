@@ -26,7 +26,7 @@ use Rattle.programme.specs.Reading.{GoodLengths}
 use Rattle.calculus.specs.Rules.{RuleSet, rulesOf, judgesViews, judgesRegion}
 use Rattle.calculus.specs.Calculus.{Store, State}
 use Rattle.calculus.specs.Blocks.{Halt, haltAnswer, runBlocks, start, mostBudget}
-use Rattle.calculus.specs.Run.{runProgramme, runOpened, run, answerOf, outputOf, answer, output}
+use Rattle.calculus.specs.Run.{runProgramme, runOpened, runUnder, run, answerOf, outputOf, answer, output}
 use Rattle.runner.specs.declared.Judges.{Judges}
 use Rattle.runner.specs.declared.Ended.{Ended}
 use Rattle.runner.specs.declared.Ended.the-variants as e
@@ -307,7 +307,7 @@ module _ (rule : ℕ) where
   unfolding judgesOf rulesOf judgesViews judgesRegion judgesLabels judgesBranch
   judges-3 h = rw h
 
-  pub judges-255 : rule ≡ 255 → Judging true false true false false rule
+  pub judges-255 : rule ≡ 255 → Judging true false true true true rule
   unfolding judgesOf rulesOf judgesViews judgesRegion judgesLabels judgesBranch
   judges-255 h = rw h
 
@@ -361,16 +361,16 @@ module _ (store p : List ℕ) (rule budget : ℕ) (old : List ℕ) where
 
   module _ (rules : RuleSet) (k : rulesOf rule ≡ ok rules) where
     pub budget-refused : mostBudget < budget → WholeRun (unplaced 11) old
-    unfolding run answerOf outputOf refusedAs require _>>=_
+    unfolding runUnder run answerOf outputOf refusedAs require _>>=_
     budget-refused h = rw (k, lt-leb budget mostBudget h) (refl, refl)
 
     module _ (h : budget ≤ mostBudget) where
       pub store-refused : (n : ℕ) → storeSheet store ≡ refuse n → WholeRun (unplaced n) old
-      unfolding run answerOf outputOf refusedAs require _>>=_
+      unfolding runUnder run answerOf outputOf refusedAs require _>>=_
       store-refused n e = rw (k, le-leb budget mostBudget h, e) (refl, refl)
 
       pub opened-run : (o : Opening) → storeSheet store ≡ ok o → (r : Answer) (out : List ℕ) → OpenedRun rules budget o p old r out → WholeRun r out
-      unfolding run refusedAs require _>>=_
+      unfolding runUnder run refusedAs require _>>=_
       opened-run o e r out q = rw (k, le-leb budget mostBudget h, e) q
 
 -- a store sheet's answer

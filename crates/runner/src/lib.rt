@@ -105,7 +105,7 @@ impl Judges {
     pub const EXPLICIT_PROVENANCE: u8 = 2;
 
     pub const FULL_PROVENANCE: u8 = 3;
-    // Stands for a rule set by default: access control.
+    // Stands for a rule set by default: full provenance.
     pub const DEFAULT: u8 = 255;
 
     pub const MOST_BUDGET: u32 = 1_000_000;
@@ -705,15 +705,21 @@ fn judges_of(rule: u8) -> Judges
         labels: false,
         branches: false,
     };
-    let access_control = Judges {
+    let full_provenance = Judges {
         known: true,
         views: false,
         regions: true,
-        labels: false,
-        branches: false,
+        labels: true,
+        branches: true,
     };
     if rule == Judges::ACCESS_CONTROL {
-        return access_control;
+        return Judges {
+            known: true,
+            views: false,
+            regions: true,
+            labels: false,
+            branches: false,
+        };
     }
     if rule == Judges::CAPABILITY {
         return Judges {
@@ -734,16 +740,10 @@ fn judges_of(rule: u8) -> Judges
         };
     }
     if rule == Judges::FULL_PROVENANCE {
-        return Judges {
-            known: true,
-            views: false,
-            regions: true,
-            labels: true,
-            branches: true,
-        };
+        return full_provenance;
     }
     if rule == Judges::DEFAULT {
-        access_control
+        full_provenance
     } else {
         none
     }

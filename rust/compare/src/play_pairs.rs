@@ -25,13 +25,46 @@ use crate::random::Random;
 use crate::sheets::{Store, Table};
 use crate::values::{Kind, Value};
 
-/// The rule that isolates.
-const FULL_PROVENANCE: u8 = 3;
-/// Under the others some pairs must end differently in a protected slot, or
-/// pairs like these would show nothing.
-const RULES: [u8; 4] = [0, 1, 2, FULL_PROVENANCE];
+/// The rule numbers of the two runs of a pair.
+#[derive(Debug, Clone, Copy, PartialEq, Eq)]
+struct Rules([u8; 2]);
 
-/// How many pairs of runs under a rule did what.
+impl Rules {
+    /// The numbers that mean full provenance.
+    const FULL: [u8; 2] = [3, 255];
+    const FULL_PROVENANCE: Rules = Rules([3, 3]);
+    /// One number for both runs, and those of full provenance mixed.
+    const ALL: [Rules; 7] = [
+        Rules([0, 0]),
+        Rules([1, 1]),
+        Rules([2, 2]),
+        Rules::FULL_PROVENANCE,
+        Rules([255, 255]),
+        Rules([3, 255]),
+        Rules([255, 3]),
+    ];
+
+    /// Under rules that don't, some pairs must end differently in a protected
+    /// slot, or pairs like these would show nothing.
+    fn isolate(self) -> bool {
+        self.0.iter().all(|rule| Rules::FULL.contains(rule))
+    }
+
+    fn isolating() -> impl Iterator<Item = Rules> {
+        Rules::ALL.into_iter().filter(|rules| rules.isolate())
+    }
+}
+
+impl Display for Rules {
+    fn fmt(&self, out: &mut Formatter) -> fmt::Result {
+        match self.0 {
+            [one, other] if one == other => write!(out, "rule {one}"),
+            [one, other] => write!(out, "rules {one} and {other}"),
+        }
+    }
+}
+
+/// How many pairs of runs under the same rules did what.
 #[derive(Debug, Clone, Copy, Default)]
 pub struct Counts {
     pub finished: u64,
@@ -82,15 +115,15 @@ impl Without {
 #[derive(Debug, Clone, Default)]
 pub struct Played {
     pairs: u64,
-    rules: [Counts; RULES.len()],
+    rules: [Counts; Rules::ALL.len()],
     without: [Counts; Without::ALL.len()],
     /// Pairs of stores that differ in a protected slot and end differently.
     shown: u64,
 }
 
 impl Played {
-    fn rules(&self) -> impl Iterator<Item = (u8, Counts)> + '_ {
-        RULES.into_iter().zip(self.rules)
+    fn rules(&self) -> impl Iterator<Item = (Rules, Counts)> + '_ {
+        Rules::ALL.into_iter().zip(self.rules)
     }
 
     fn without(&self) -> impl Iterator<Item = (&'static str, Counts)> + '_ {
@@ -103,7 +136,7 @@ impl Played {
     /// The counts, in words.
     pub fn lines(&self) -> Vec<String> {
         let rules = self.rules();
-        let rules = rules.map(|(rule, counts)| format!("rule {rule}: {counts}"));
+        let rules = rules.map(|(rules, counts)| format!("{rules}: {counts}"));
         let without = self.without();
         let without = without.map(|(words, counts)| format!("{words}: {counts}"));
         let shown = self.shown;
@@ -118,11 +151,11 @@ impl Played {
         let idle = self
             .rules()
             .filter(|(_, counts)| !enough(*counts) || !telling(*counts))
-            .map(|(rule, _)| format!("rule {rule}: too few pairs finish or do anything"));
+            .map(|(rules, _)| format!("{rules}: too few pairs finish or do anything"));
         let blind = self
             .rules()
-            .filter(|(rule, counts)| *rule != FULL_PROVENANCE && counts.leaked == 0)
-            .map(|(rule, _)| format!("rule {rule}: no pair ends differently where protected"));
+            .filter(|(rules, counts)| !rules.isolate() && counts.leaked == 0)
+            .map(|(rules, _)| format!("{rules}: no pair ends differently where protected"));
         let needless = self
             .without()
             .filter(|(_, counts)| counts.leaked == 0)
@@ -178,18 +211,20 @@ pub fn play(seed: u64, count: u64) -> Result<Played, Stopped> {
         let random = &mut Random::of_case(seed, case);
         let pair = Pair::random(random, None);
         played.pairs += 1;
-        for (place, rule) in RULES.into_iter().enumerate() {
-            let leak = pair.play(rule, &mut played.rules[place])?;
-            if let (FULL_PROVENANCE, Some(leak)) = (rule, leak) {
+        for (place, rules) in Rules::ALL.into_iter().enumerate() {
+            let leak = pair.play(rules, &mut played.rules[place])?;
+            if let (true, Some(leak)) = (rules.isolate(), leak) {
                 return Err(Stopped::Leaks(Box::new(leak)));
             }
         }
         for (place, without) in Without::ALL.into_iter().enumerate() {
             let pair = Pair::random(random, Some(without));
-            pair.play(FULL_PROVENANCE, &mut played.without[place])?;
+            pair.play(Rules::FULL_PROVENANCE, &mut played.without[place])?;
         }
         if let Some(pair) = Pair::of_unlike_stores(random) {
-            pair.play_back()?;
+            for rules in Rules::isolating() {
+                pair.play_back(rules)?;
+            }
             played.shown += 1;
         }
     }
@@ -233,8 +268,8 @@ impl Pair {
 
     /// Both runs. If they finish and end differently in a protected slot, that
     /// is a leak.
-    fn play(&self, rule: u8, counts: &mut Counts) -> Result<Option<Leak>, Stopped> {
-        let calls = [0, 1].map(|side| self.call(side, rule));
+    fn play(&self, rules: Rules, counts: &mut Counts) -> Result<Option<Leak>, Stopped> {
+        let calls = self.calls(rules);
         let seen = |call: &Call| call.compare().map_err(Stopped::Differs);
         let ends = [seen(&calls[0])?, seen(&calls[1])?];
         if ends.iter().any(|end| end.answer.number != 0) {
@@ -257,24 +292,23 @@ impl Pair {
     }
 
     /// Both runs finish and end differently in a protected slot, or it stops.
-    fn play_back(&self) -> Result<(), Stopped> {
-        match self.play(FULL_PROVENANCE, &mut Counts::default())? {
+    fn play_back(&self, rules: Rules) -> Result<(), Stopped> {
+        match self.play(rules, &mut Counts::default())? {
             Some(_) => Ok(()),
-            None => {
-                let calls = [0, 1].map(|side| self.call(side, FULL_PROVENANCE));
-                Err(Stopped::Hides(Box::new(calls)))
-            }
+            None => Err(Stopped::Hides(Box::new(self.calls(rules)))),
         }
     }
 
-    fn call(&self, side: usize, rule: u8) -> Call {
-        let store = &self.stores[side];
-        Call::Run(Run {
-            store: store.bytes(),
-            programme: programme_sheet(&self.replacements[side]).bytes,
-            rule,
-            budget: self.budgets[side],
-            output_length: store.table.slots() * Value::WIDTH,
+    fn calls(&self, rules: Rules) -> [Call; 2] {
+        [0, 1].map(|side| {
+            let store = &self.stores[side];
+            Call::Run(Run {
+                store: store.bytes(),
+                programme: programme_sheet(&self.replacements[side]).bytes,
+                rule: rules.0[side],
+                budget: self.budgets[side],
+                output_length: store.table.slots() * Value::WIDTH,
+            })
         })
     }
 
@@ -442,9 +476,13 @@ mod tests {
         let mut pair = (0..)
             .find_map(|case| Pair::of_unlike_stores(&mut Random::of_case(16, case)))
             .expect("stores that differ");
-        assert!(pair.play_back().is_ok());
+        for rules in Rules::isolating() {
+            assert!(pair.play_back(rules).is_ok());
+        }
         pair.stores[1] = pair.stores[0].clone();
-        assert!(matches!(pair.play_back(), Err(Stopped::Hides(_))));
+        for rules in Rules::isolating() {
+            assert!(matches!(pair.play_back(rules), Err(Stopped::Hides(_))));
+        }
     }
 
     #[test]

@@ -24,7 +24,7 @@ const RULES: [(u8, &[u32], &[u32]); 5] = [
     (1, &[15], &[14, 16]),
     (2, &[14, 16], &[15]),
     (3, &[14, 16], &[15]),
-    (255, &[14], &[15, 16]),
+    (255, &[14, 16], &[15]),
 ];
 
 /// How many runs had which budget beside the steps that they do when they have

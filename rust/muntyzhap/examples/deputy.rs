@@ -1,6 +1,7 @@
 //! A confused deputy. The customer says where its result shall go and names a
 //! slot of the laboratory's. The laboratory's block may write there: under
-//! access control it does, under full provenance it is refused by 16.
+//! access control it does; under full provenance it is refused by 16, and so it
+//! is under the house rule, which the sample desk sends.
 
 mod laboratory;
 
@@ -46,7 +47,7 @@ fn programme() -> Vec<u8> {
 
 fn main() {
     let (store, programme) = (store(), programme());
-    for rule in [Rule::AccessControl, Rule::FullProvenance] {
+    for rule in [Rule::AccessControl, Rule::FullProvenance, Rule::House] {
         let mut out = vec![BEFORE; output_bytes(&store)];
         println!("rule {}, {rule}", rule.number());
         match run(&store, &programme, rule, BUDGET, &mut out) {

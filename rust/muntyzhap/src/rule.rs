@@ -18,7 +18,7 @@ pub enum Rule {
     ExplicitProvenance = 2,
     /// Explicit provenance, and the label of the branch likewise.
     FullProvenance = 3,
-    /// The house rule: access control.
+    /// The house rule: full provenance.
     House = 255,
 }
 

@@ -86,7 +86,7 @@ fn the_written_sheets_are_those_of_the_repository_s_example() {
 #[test]
 fn a_finished_run_leaves_its_end_store() {
     let mut out = [UNTOUCHED; 10];
-    let finished = run(&store(), &two_blocks(), Rule::House, 10, &mut out);
+    let finished = run(&store(), &two_blocks(), Rule::AccessControl, 10, &mut out);
     let expected = Finished {
         blocks: 2,
         steps: 2,
@@ -181,9 +181,9 @@ fn programme_sheets_are_judged() {
 #[test]
 fn arguments_are_judged() {
     let (store, programme) = (store(), two_blocks());
-    let past = answer(&store, &programme, Rule::House, MOST_BUDGET + 1);
+    let past = answer(&store, &programme, Rule::AccessControl, MOST_BUDGET + 1);
     assert_eq!(past, Err(Refusal::Arguments));
-    assert!(answer(&store, &programme, Rule::House, MOST_BUDGET).is_ok());
+    assert!(answer(&store, &programme, Rule::AccessControl, MOST_BUDGET).is_ok());
     for length in [0, 9, 11] {
         let mut out = vec![UNTOUCHED; length];
         let refused = run(&store, &programme, Rule::House, 10, &mut out);
@@ -218,6 +218,7 @@ fn a_step_that_is_forbidden_is_refused_at_its_place() {
     let expected = Err(Refusal::ProvenanceTooLow(stop(1, 0, 1)));
     assert_eq!(ran(&two_blocks(), Rule::ExplicitProvenance), expected);
     assert_eq!(ran(&two_blocks(), Rule::FullProvenance), expected);
+    assert_eq!(ran(&two_blocks(), Rule::House), expected);
 
     let endless = programme_of(LOW, while_command(truth(true), skip()));
     let spent = answer(&store(), &endless, Rule::AccessControl, 3);

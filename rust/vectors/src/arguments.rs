@@ -33,20 +33,28 @@ fn rules() -> Vec<Case> {
     cases
 }
 
-/// "Rule 255, the house rule, is rule 0": what sets rule 0 apart from 1, 2
-/// and 3, under 255.
+/// "Rule 255 is to mean rule 3": what sets rule 3 apart from 0, 1 and 2, under
+/// 255.
 fn default_rule() -> Vec<Case> {
-    let default = |name| case(name, "Rule 255, the house rule, is rule 0.").rule(255);
+    let default = |name| case(name, "Rule 255 is to mean rule 3.").rule(255);
+    let flag = store(&PAIR, &[(0, truth(true)), (1, integer(7))]);
     vec![
         default("rule 255, a write view is held")
             .block(0, set(0, literal(write_view(1))))
             .finishes(1, &[write_view(1), integer(7)]),
         default("rule 255, a low value goes up")
             .programme(example_programme([0, 1]))
+            .refused(16, 1, 0, 1),
+        default("rule 255, a low value goes up, endorsed")
+            .programme(example_programme([0, 0x81]))
             .finishes(2, &[integer(42), integer(42)]),
         default("rule 255, the region is judged")
             .block(0, set_integer(1, 9))
             .refused(14, 0, 0, 0),
+        default("rule 255, the branch is judged")
+            .store(flag)
+            .block(1, if_else(slot(0), set_integer(1, 41), skip()))
+            .refused(16, 0, 1 + slot(0).len(), 1),
     ]
 }
 

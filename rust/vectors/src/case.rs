@@ -1,12 +1,13 @@
-//! A case: a call of the runner, and the answer that document 01 gives it,
-//! worked by hand.
+//! A case: a call of the runner, and the answer that documents 01 and 02 give
+//! it, worked by hand.
 
 use crate::common::*;
 use second_runner::Answer;
 
 pub struct Case {
     pub name: String,
-    /// The sentence of document 01, or of the paper, that the case is about.
+    /// The sentence of document 01 or 02, or of the paper, that the case is
+    /// about.
     pub says: &'static str,
     pub call: Call,
     /// The length of the output that is lent.

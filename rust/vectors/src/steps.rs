@@ -3,7 +3,7 @@
 //!
 //! No number from 1 to 17 is without a case. Some cannot come up under some
 //! rules: 14 under rule 1, which judges write views instead; 15 under the
-//! others; 16 under rules 0, 1 and 255, which judge no labels.
+//! others; 16 under rules 0 and 1, which judge no labels.
 
 use crate::case::{case, Case, Draft};
 use crate::common::*;
