@@ -1,12 +1,14 @@
 -- Demand 3: noninterference under full provenance, on bytes. Assumes nothing.
 use Prim.Native.Nat.{ℕ, _+_, _*_, _<_}
 use mathlib.Core.Path.{_≡_, refl, sym, ap, _∙_}
-use mathlib.Core.Bool.{true, false}
+use mathlib.Core.Logic.{_↔_}
+use mathlib.Core.Bool.{Bool, true, false, false≢true}
 use mathlib.Core.List.{List}
 use native.Mathlib.Omega.{arith}
 use native.Mathlib.Decide.{decLt}
 use lib.ListN.{getD, length, replicate, length-replicate}
-use borrow.Author.Tests.{eq-eqb}
+use lib.Dec.{eqb}
+use borrow.Author.Tests.{eqb-true, eq-eqb}
 use Rattle.lattice.specs.Tests.{_and_, every}
 use Rattle.lattice.specs.Order.{Label, below}
 use Rattle.store.specs.declared.Answer.{Answer}
@@ -14,7 +16,7 @@ use Rattle.store.specs.Result.{Result, ok, _>>=_, require, refusedAs}
 use Rattle.store.specs.Bytes.{Bytes, numberAt, part}
 use Rattle.store.specs.Value.{opened, emptySlot, slotWidth, slotBytes}
 use Rattle.store.specs.Sheet.{Tables, ownerOf, slotValueAt, storeSheet}
-use Rattle.store.proofs.Result.{Any, post-all, post-at}
+use Rattle.store.proofs.Result.{Post, Any, post-ok, post-refuse, post-all, post-at}
 use Rattle.store.proofs.Pairs.{Post₂, Each, post₂-ok, post₂-join, post₂-equal, post₂-require, post₂-at, post₂-refused-as, post₂-bind}
 use Rattle.store.specs.Held.{Ordered}
 use Rattle.store.proofs.Opening.{Opens, store-opens, values-one, slots-part}
@@ -23,7 +25,7 @@ use Rattle.programme.specs.Code.{readBlock}
 use Rattle.programme.specs.declared.Header.{Header}
 use Rattle.programme.specs.Sheet.{Block, kOf, headerAt, startOf, inBlock, blockAt, blocksFrom, programmeSheet}
 use Rattle.programme.proofs.Pairs.{programmes₂}
-use Rattle.calculus.specs.Rules.{fullProvenance, rulesOf}
+use Rattle.calculus.specs.Rules.{RuleSet, accessControl, capability, explicitProvenance, fullProvenance, rulesOf}
 use Rattle.calculus.specs.Calculus.{Store}
 use Rattle.calculus.specs.Blocks.{runBlocks, start}
 use Rattle.calculus.proofs.Taint.{Tainted, Agree}
@@ -33,11 +35,44 @@ use Rattle.calculus.specs.Vectors.{none}
 use Rattle.calculus.specs.Isolation.{withinReach, StoresAgree, Replaced, unchanged, exchanged, Replacement, NoneEndorsed, FullRule, byNumber, byDefault, FullRun, RunsAgree, Isolation}
 use Rattle.calculus.proofs.Finished.{run-finished}
 
--- each of the numbers stands for full provenance
+-- Rule numbers
+
+-- each of the two numbers stands for full provenance ..
 full-rules : (rule : ℕ) → FullRule rule → rulesOf rule ≡ ok fullProvenance
 unfolding rulesOf
 full-rules rule (byNumber e) = rw e
 full-rules rule (byDefault e) = rw e
+
+isFull : RuleSet → Bool
+isFull accessControl = false
+isFull capability = false
+isFull explicitProvenance = false
+isFull fullProvenance = true
+
+abbrev FullOnly : ℕ → RuleSet → Type 0
+FullOnly rule rules = isFull rules ≡ true → FullRule rule
+
+either : (rule n : ℕ) (x y : Result ℕ RuleSet) → (rule ≡ n → Post (FullOnly rule) Any x) → Post (FullOnly rule) Any y
+    → Post {E = ℕ} {A = RuleSet} (FullOnly rule) Any (elim (eqb rule n) [ true ↦ x | false ↦ y ])
+either rule n x y p q = go (eqb rule n) refl
+  where
+    go : (b : Bool) → eqb rule n ≡ b → Post {E = ℕ} {A = RuleSet} (FullOnly rule) Any (elim b [ true ↦ x | false ↦ y ])
+    go true e = p (eqb-true rule n e)
+    go false e = q
+
+-- .. and no other number does
+numbers-full : (rule : ℕ) → rulesOf rule ≡ ok fullProvenance → FullRule rule
+unfolding rulesOf isFull
+numbers-full rule e =
+    post-at _ _ _ _ (
+    either rule 0 _ _ (λ _. post-ok _ _ _ (λ h. absurd (false≢true h))) (
+    either rule 1 _ _ (λ _. post-ok _ _ _ (λ h. absurd (false≢true h))) (
+    either rule 2 _ _ (λ _. post-ok _ _ _ (λ h. absurd (false≢true h))) (
+    either rule 3 _ _ (λ n. post-ok _ _ _ (λ _. byNumber n)) (
+    either rule 255 _ _ (λ n. post-ok _ _ _ (λ _. byDefault n)) (post-refuse _ _ _ tt)))))) e refl
+
+pub full-rule : (rule : ℕ) → FullRule rule ↔ (rulesOf rule ≡ ok fullProvenance)
+full-rule rule = (full-rules rule, numbers-full rule)
 
 -- Blocks
 
