@@ -9,7 +9,8 @@ use Rattle.store.proofs.Result.{Post, Refuses, post-map, post-refused-as, refus
 use Rattle.store.proofs.Opening.{store-opens}
 use Rattle.programme.proofs.Refusals.{programme-refuses}
 use Rattle.calculus.specs.Blocks.{haltAnswer}
-use Rattle.calculus.proofs.Refusals.{rules-refuse, blocks-refuse}
+use Rattle.calculus.proofs.Rules.{rules-refuse}
+use Rattle.calculus.proofs.Refusals.{blocks-refuse}
 use Rattle.calculus.specs.Run.{Finished, runProgramme, runOpened, runUnder, run, answerOf, answer}
 
 abbrev Numbered : Answer → Type 0
@@ -18,7 +19,7 @@ Numbered a = Positive (a .number)
 run-refuses : (store programme : List ℕ) (rule budget room : ℕ) → Refuses Numbered (run store programme rule budget room)
 unfolding runProgramme runOpened runUnder run unplaced haltAnswer
 run-refuses store programme rule budget room =
-    refuses-bind _ _ _ (post-refused-as _ _ _ _ (rules-refuse rule)) λ rules.
+    refuses-bind _ _ _ (post-refused-as _ _ _ _ (rules-refuse Positive rule (omega arith))) λ rules.
     refuses-require _ _ _ _ (omega arith) (
     refuses-bind _ _ _ (post-refused-as _ _ _ _ (post-map _ _ _ _ _ (store-opens store) (λ _ _. tt) (λ _ q. q))) λ o.
     refuses-bind _ _ _ (programme-refuses _ _ programme) λ blocks.

@@ -7,8 +7,7 @@ use mathlib.Core.List.{List}
 use native.Mathlib.Omega.{arith}
 use native.Mathlib.Decide.{decLt}
 use lib.ListN.{getD, length, replicate, length-replicate}
-use lib.Dec.{eqb}
-use borrow.Author.Tests.{eqb-true, eq-eqb}
+use borrow.Author.Tests.{eq-eqb}
 use Rattle.lattice.specs.Tests.{_and_, every}
 use Rattle.lattice.specs.Order.{Label, below}
 use Rattle.store.specs.declared.Answer.{Answer}
@@ -16,7 +15,7 @@ use Rattle.store.specs.Result.{Result, ok, _>>=_, require, refusedAs}
 use Rattle.store.specs.Bytes.{Bytes, numberAt, part}
 use Rattle.store.specs.Value.{opened, emptySlot, slotWidth, slotBytes}
 use Rattle.store.specs.Sheet.{Tables, ownerOf, slotValueAt, storeSheet}
-use Rattle.store.proofs.Result.{Post, Any, post-ok, post-refuse, post-all, post-at}
+use Rattle.store.proofs.Result.{Any, post-all, post-at}
 use Rattle.store.proofs.Pairs.{Post₂, Each, post₂-ok, post₂-join, post₂-equal, post₂-require, post₂-at, post₂-refused-as, post₂-bind}
 use Rattle.store.specs.Held.{Ordered}
 use Rattle.store.proofs.Opening.{Opens, store-opens, values-one, slots-part}
@@ -28,6 +27,7 @@ use Rattle.programme.proofs.Pairs.{programmes₂}
 use Rattle.calculus.specs.Rules.{RuleSet, accessControl, capability, explicitProvenance, fullProvenance, rulesOf}
 use Rattle.calculus.specs.Calculus.{Store}
 use Rattle.calculus.specs.Blocks.{runBlocks, start}
+use Rattle.calculus.proofs.Rules.{rules-post}
 use Rattle.calculus.proofs.Taint.{Tainted, Agree}
 use Rattle.calculus.proofs.Noninterference.{Alike, Opposite, alike, reached, blocks-isolated}
 use Rattle.calculus.specs.Run.{Finished, runProgramme, runOpened, runUnder, run, answerOf, outputOf, output}
@@ -49,27 +49,13 @@ isFull capability = false
 isFull explicitProvenance = false
 isFull fullProvenance = true
 
-abbrev FullOnly : ℕ → RuleSet → Type 0
-FullOnly rule rules = isFull rules ≡ true → FullRule rule
-
-either : (rule n : ℕ) (x y : Result ℕ RuleSet) → (rule ≡ n → Post (FullOnly rule) Any x) → Post (FullOnly rule) Any y
-    → Post {E = ℕ} {A = RuleSet} (FullOnly rule) Any (elim (eqb rule n) [ true ↦ x | false ↦ y ])
-either rule n x y p q = go (eqb rule n) refl
-  where
-    go : (b : Bool) → eqb rule n ≡ b → Post {E = ℕ} {A = RuleSet} (FullOnly rule) Any (elim b [ true ↦ x | false ↦ y ])
-    go true e = p (eqb-true rule n e)
-    go false e = q
-
 -- .. and no other number does
 numbers-full : (rule : ℕ) → rulesOf rule ≡ ok fullProvenance → FullRule rule
-unfolding rulesOf isFull
+unfolding isFull
 numbers-full rule e =
     post-at _ _ _ _ (
-    either rule 0 _ _ (λ _. post-ok _ _ _ (λ h. absurd (false≢true h))) (
-    either rule 1 _ _ (λ _. post-ok _ _ _ (λ h. absurd (false≢true h))) (
-    either rule 2 _ _ (λ _. post-ok _ _ _ (λ h. absurd (false≢true h))) (
-    either rule 3 _ _ (λ n. post-ok _ _ _ (λ _. byNumber n)) (
-    either rule 255 _ _ (λ n. post-ok _ _ _ (λ _. byDefault n)) (post-refuse _ _ _ tt)))))) e refl
+    rules-post (λ (rules : RuleSet). isFull rules ≡ true → FullRule rule) Any rule
+    (λ _ h. absurd (false≢true h)) (λ _ h. absurd (false≢true h)) (λ _ h. absurd (false≢true h)) (λ n _. byNumber n) (λ n _. byDefault n) tt) e refl
 
 pub full-rule : (rule : ℕ) → FullRule rule ↔ (rulesOf rule ≡ ok fullProvenance)
 full-rule rule = (full-rules rule, numbers-full rule)

@@ -1,6 +1,7 @@
 pub mod Steps
 pub mod While
 pub mod Blocks
+pub mod Rules
 pub mod Refusals
 pub mod Pairs
 pub mod Taint

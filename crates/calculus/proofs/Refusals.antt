@@ -1,33 +1,17 @@
 -- Every refusal of a run has a number from 1 on. Assumes nothing.
 use Prim.Native.Nat.{ℕ, _+_, _-_}
-use mathlib.Core.Bool.{Bool, true, false}
 use mathlib.Core.List.{List, [], _∷_}
 use native.Mathlib.Omega.{arith}
-use lib.Dec.{eqb}
 use Rattle.lattice.specs.Order.{Label}
 use Rattle.store.specs.Result.{Result}
 use Rattle.store.specs.Sheet.{Tables}
-use Rattle.store.proofs.Result.{Any, Refuses, post-refuse, post-refused-as, refuses-ok, refuses-require, refuses-bind, Positive}
+use Rattle.store.proofs.Result.{Any, Refuses, post-refused-as, refuses-ok, refuses-require, refuses-bind, Positive}
 use Rattle.programme.specs.Sheet.{Block}
 use Rattle.programme.specs.Syntax.{Expr, literal, read, Cmd, cmd, Body, skip, assign, seq, if, while, Cmds, nil, cons}
-use Rattle.calculus.specs.Rules.{RuleSet, rulesOf}
+use Rattle.calculus.specs.Rules.{RuleSet}
 use Rattle.calculus.specs.Calculus.{Setting, Store, Labelled, State, Stop, admit, fetch, eval, judge, permit, assignment, counted, step, exec, execBody, execs}
 use Rattle.calculus.specs.Blocks.{Halt, setting, runBlocks}
 use Rattle.calculus.proofs.Steps.{post-choose, post-tried, post-loop}
-
-either : (b : Bool) (x y : Result ℕ RuleSet) → Refuses Positive x → Refuses Positive y
-    → Refuses {A = RuleSet} Positive (elim b [ true ↦ x | false ↦ y ])
-either true x y p q = p
-either false x y p q = q
-
-pub rules-refuse : (r : ℕ) → Refuses Positive (rulesOf r)
-unfolding rulesOf
-rules-refuse r =
-    either (eqb r 0) _ _ (refuses-ok _ _) (
-    either (eqb r 1) _ _ (refuses-ok _ _) (
-    either (eqb r 2) _ _ (refuses-ok _ _) (
-    either (eqb r 3) _ _ (refuses-ok _ _) (
-    either (eqb r 255) _ _ (refuses-ok _ _) (post-refuse _ _ _ (omega arith))))))
 
 abbrev Numbered : Stop → Type 0
 Numbered e = Positive (e .number)

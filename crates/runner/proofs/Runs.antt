@@ -5,7 +5,6 @@ use mathlib.Core.Bool.{Bool, true, false, false≢true}
 use mathlib.Core.List.{List, [], _∷_, _++_}
 use native.Mathlib.Omega.{arith}
 use lib.ListN.{length, getD}
-use lib.Dec.{eqb}
 use borrow.Author.Tests.{le-leb, lt-leb, leb-true, ltb-true, eqb-true, eq-eqb, ne-eqb}
 use Rattle.lattice.specs.Tests.{_and_}
 use Rattle.lattice.proofs.Tests.{and-l, and-r, every-at}
@@ -16,7 +15,7 @@ use Rattle.store.specs.Bytes.{table}
 use Rattle.store.specs.Value.{Slot, emptySlot, slotWidth, slotBytes, valueBytes}
 use Rattle.store.specs.Sheet.{Tables, Opening, ownerOf, mostSlots, storeSheet, slotsBytes}
 use Rattle.store.specs.Held.{openedOf, heldAfter, heldOf, rowOf, rowBytes, rowsBytes, roomChecked, outAfter}
-use Rattle.store.proofs.Result.{Post, Refuses, refuses-ok, post-refuse, post-at, Positive}
+use Rattle.store.proofs.Result.{Post, Refuses, post-at, Positive}
 use Rattle.store.proofs.InTurn.{require-ok}
 use Rattle.store.proofs.Fill.{table-at}
 use Rattle.store.proofs.Bytes.{formed-more}
@@ -26,6 +25,7 @@ use Rattle.programme.specs.Reading.{GoodLengths}
 use Rattle.calculus.specs.Rules.{RuleSet, rulesOf, judgesViews, judgesRegion}
 use Rattle.calculus.specs.Calculus.{Store, State}
 use Rattle.calculus.specs.Blocks.{Halt, haltAnswer, runBlocks, start, mostBudget}
+use Rattle.calculus.proofs.Rules.{rules-refuse}
 use Rattle.calculus.specs.Run.{runProgramme, runOpened, runUnder, run, answerOf, outputOf, answer, output}
 use Rattle.runner.specs.declared.Judges.{Judges}
 use Rattle.runner.specs.declared.Ended.{Ended}
@@ -315,24 +315,9 @@ module _ (rule : ℕ) where
   unfolding judgesOf rulesOf
   judges-none a b c d e = rw (rulesOf, ne-eqb rule 0 a, ne-eqb rule 1 b, ne-eqb rule 2 c, ne-eqb rule 3 d, ne-eqb rule 255 e)
 
--- a rule number is refused by 11
-by-11 : (b : Bool) (x y : Result ℕ RuleSet) → Refuses (λ (e : ℕ). e ≡ 11) x → Refuses (λ (e : ℕ). e ≡ 11) y
-    → Refuses {A = RuleSet} (λ (e : ℕ). e ≡ 11) (elim b [ true ↦ x | false ↦ y ])
-by-11 true x y p q = p
-by-11 false x y p q = q
-
-rules-11 : (rule : ℕ) → Refuses (λ (e : ℕ). e ≡ 11) (rulesOf rule)
-unfolding rulesOf
-rules-11 rule =
-    by-11 (eqb rule 0) _ _ (refuses-ok _ _)
-    (by-11 (eqb rule 1) _ _ (refuses-ok _ _)
-    (by-11 (eqb rule 2) _ _ (refuses-ok _ _)
-    (by-11 (eqb rule 3) _ _ (refuses-ok _ _)
-    (by-11 (eqb rule 255) _ _ (refuses-ok _ _) (post-refuse _ _ _ refl)))))
-
 pub rules-unknown : (rule : ℕ) (j : Judges) → j ≡ judgesOf (rulesOf rule) → j .known ≡ false → rulesOf rule ≡ refuse 11
 unfolding judgesOf Post
-rules-unknown rule j e h = go (rulesOf rule) refl (rules-11 rule)
+rules-unknown rule j e h = go (rulesOf rule) refl (rules-refuse _ rule refl)
   where
     go : (r : Result ℕ RuleSet) → rulesOf rule ≡ r → Refuses (λ (e : ℕ). e ≡ 11) r → rulesOf rule ≡ refuse 11
     go (ok s) q x = absurd (false≢true (sym h ∙ ap (λ (y : Judges). y .known) (rw q at e)))
