@@ -2,7 +2,7 @@
 use Prim.Native.Nat.{ℕ, _+_, _*_, _<_}
 use mathlib.Core.Path.{_≡_, refl, sym, ap, _∙_}
 use mathlib.Core.Logic.{_↔_}
-use mathlib.Core.Bool.{Bool, true, false, false≢true}
+use mathlib.Core.Bool.{true, false}
 use mathlib.Core.List.{List}
 use native.Mathlib.Omega.{arith}
 use native.Mathlib.Decide.{decLt}
@@ -24,7 +24,7 @@ use Rattle.programme.specs.Code.{readBlock}
 use Rattle.programme.specs.declared.Header.{Header}
 use Rattle.programme.specs.Sheet.{Block, kOf, headerAt, startOf, inBlock, blockAt, blocksFrom, programmeSheet}
 use Rattle.programme.proofs.Pairs.{programmes₂}
-use Rattle.calculus.specs.Rules.{RuleSet, accessControl, capability, explicitProvenance, fullProvenance, rulesOf}
+use Rattle.calculus.specs.Rules.{RuleSet, fullProvenance, rulesOf, labelsJudged}
 use Rattle.calculus.specs.Calculus.{Store}
 use Rattle.calculus.specs.Blocks.{runBlocks, start}
 use Rattle.calculus.proofs.Rules.{rules-post}
@@ -43,19 +43,14 @@ unfolding rulesOf
 full-rules rule (byNumber e) = rw e
 full-rules rule (byDefault e) = rw e
 
-isFull : RuleSet → Bool
-isFull accessControl = false
-isFull capability = false
-isFull explicitProvenance = false
-isFull fullProvenance = true
-
--- .. and no other number does
+-- .. and no other number does, since full provenance alone judges three labels
 numbers-full : (rule : ℕ) → rulesOf rule ≡ ok fullProvenance → FullRule rule
-unfolding isFull
+unfolding labelsJudged
 numbers-full rule e =
     post-at _ _ _ _ (
-    rules-post (λ (rules : RuleSet). isFull rules ≡ true → FullRule rule) Any rule
-    (λ _ h. absurd (false≢true h)) (λ _ h. absurd (false≢true h)) (λ _ h. absurd (false≢true h)) (λ n _. byNumber n) (λ n _. byDefault n) tt) e refl
+    rules-post (λ (rules : RuleSet). length (labelsJudged rules 0 0 0) ≡ 3 → FullRule rule) Any rule
+    (λ _ h. absurd (omega (arith, h))) (λ _ h. absurd (omega (arith, h))) (λ _ h. absurd (omega (arith, h)))
+    (λ n _. byNumber n) (λ n _. byDefault n) tt) e refl
 
 pub full-rule : (rule : ℕ) → FullRule rule ↔ (rulesOf rule ≡ ok fullProvenance)
 full-rule rule = (full-rules rule, numbers-full rule)
