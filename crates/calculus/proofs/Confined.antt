@@ -1,30 +1,30 @@
 -- Confinement under full provenance: where the region or the branch is tainted, no protected slot is written. Assumes nothing.
-use Prim.Native.Nat.{ℕ, _-_}
+use Prim.Native.Nat.{ℕ}
 use mathlib.Core.Path.{_≡_}
 use mathlib.Core.Bool.{Bool, true, false}
-use Rattle.lattice.specs.Tests.{_or_, _implies_}
-use Rattle.lattice.specs.Order.{Label, below, meet}
-use Rattle.lattice.proofs.Order.{top-lt}
+use Rattle.lattice.specs.Tests.{_or_}
+use Rattle.lattice.specs.Order.{Label, below}
 use Rattle.lattice.proofs.Tests.{and-l, and-r}
 use Rattle.store.specs.Sheet.{Tables, ownerOf}
-use Rattle.store.proofs.Result.{Post, Any, post-ok, post-require, post-bind}
+use Rattle.store.proofs.Result.{Post, Any, post-ok, post-map, post-require, post-bind}
 use Rattle.store.specs.Held.{Ordered}
 use Rattle.programme.specs.declared.Header.{Header}
-use Rattle.programme.specs.Syntax.{Expr, literal, read, Cmd, cmd, Body, skip, assign, seq, if, while, Cmds, nil, cons}
-use Rattle.calculus.specs.Rules.{fullProvenance, judgesRegion, labelsJudged, allAbove}
-use Rattle.calculus.specs.Calculus.{Setting, Store, Labelled, Write, State, inRegion, admit, fetch, eval, judge, authorised, reliable, permit, assignment, counted, performed, exec, execBody, execs}
-use Rattle.calculus.proofs.Steps.{post-choose, post-tried, post-loop}
-use Rattle.calculus.proofs.Taint.{Tainted, Principal, Agree, agree-tainted, tainted-down, principal-meet, tainted-left}
+use Rattle.programme.specs.Syntax.{Expr, Cmd}
+use Rattle.programme.proofs.Literals.{literals-all}
+use Rattle.calculus.specs.Rules.{fullProvenance, labelsJudged, allAbove}
+use Rattle.calculus.specs.Calculus.{Setting, Store, Labelled, Write, State, eval, judge, reliable, permit, assignment, exec}
+use Rattle.calculus.proofs.Invariant.{exec-keeps}
+use Rattle.calculus.proofs.Taint.{Tainted, Principal, Agree, agree-tainted, tainted-down, tainted-left, eval-principal}
+use Rattle.calculus.proofs.Authority.{reach-keeps}
 
 -- a block of header h under full provenance
 abbrev pub under : Tables → Header → ℕ → Setting
 under w h budget = record { tables = w; rules = fullProvenance; header = h; budget = budget }
 
--- an assignment whose labels or region shut protected slots out
+-- an assignment whose labels shut protected slots out
 abbrev pub Shut : Tables → Label → Header → ℕ → Label → Label → Label → Type 0
 Shut w a h budget x y branch =
-    (i : ℕ) → authorised (under w h budget) i ≡ true
-    → reliable (under w h budget) i (labelsJudged fullProvenance x y branch) ≡ true → Tainted w a (ownerOf w i)
+    (i : ℕ) → reliable (under w h budget) i (labelsJudged fullProvenance x y branch) ≡ true → Tainted w a (ownerOf w i)
 
 -- a write to a slot that is not protected
 abbrev pub Harmless : Tables → Label → Write → Type 0
@@ -53,21 +53,7 @@ module _ (w : Tables) (h : Header) where
         by-branch = and-l (above branch) _ (and-r (above y) _ (and-r (above x) _ all));
       }
 
-  -- and where 14 does not
-  pub authorised-at : (budget i : ℕ) → authorised (under w h budget) i ≡ true → below (w .order) (ownerOf w i) (h .region) ≡ true
-  unfolding authorised inRegion judgesRegion _implies_
-  authorised-at budget i e = e
-
 module _ (w : Tables) (a : Label) (o : Ordered w) (in-a : Principal w a) (h : Header) where
-  -- labels are principals
-  pub eval-principal : (budget : ℕ) (s : Store) (e : Expr) → Post (λ x. Principal w (x .label)) Any (eval (under w h budget) s e)
-  unfolding eval fetch admit
-  eval-principal budget s (literal v) = post-require _ _ _ _ _ (λ _. post-ok _ _ _ (top-lt (w .order) (o .table))) (λ _. tt)
-  eval-principal budget s (read e) =
-      post-bind _ _ _ _ _ (eval-principal budget s e) λ x p.
-      post-require _ _ _ _ _
-      (λ _. post-require _ _ _ _ _ (λ _. post-ok _ _ _ (principal-meet w a o in-a _ _ p (o .owners _))) (λ _. tt)) (λ _. tt)
-
   -- a guard's label is its expression's
   pub judge-label : (L : Label → Type 0) (budget : ℕ) (s : Store) (g : Expr)
       → Post (λ x. L (x .label)) Any (eval (under w h budget) s g) → Post (λ j. L (j .label)) Any (judge (under w h budget) s g)
@@ -75,13 +61,13 @@ module _ (w : Tables) (a : Label) (o : Ordered w) (in-a : Principal w a) (h : He
   judge-label L budget s g p = post-bind _ _ _ _ _ p (λ x l. post-require _ _ _ _ _ (λ _. post-ok _ _ _ l) (λ _. tt))
 
   pub judge-principal : (budget : ℕ) (s : Store) (g : Expr) → Post (λ j. Principal w (j .label)) Any (judge (under w h budget) s g)
-  judge-principal budget s g = judge-label (Principal w) budget s g (eval-principal budget s g)
+  judge-principal budget s g = judge-label (Principal w) budget s g (eval-principal (under w h budget) o s g)
 
   permit-shut : (budget : ℕ) (branch : Label) (x y : Labelled) → Shut w a h budget (x .label) (y .label) branch
       → Post (Harmless w a) Any (permit (under w h budget) branch x y)
   unfolding permit
   permit-shut budget branch x y c =
-      post-require _ _ _ _ _ (λ p. post-require _ _ _ _ _ (λ q. post-ok _ _ _ (c _ p q)) (λ _. tt)) (λ _. tt)
+      post-require _ _ _ _ _ (λ _. post-require _ _ _ _ _ (λ q. post-ok _ _ _ (c _ q)) (λ _. tt)) (λ _. tt)
 
   pub assignment-shut : (X Y : Label → Type 0) (budget : ℕ) (branch : Label) (s : Store) (t v : Expr)
       → Post (λ x. X (x .label)) Any (eval (under w h budget) s t) → Post (λ x. Y (x .label)) Any (eval (under w h budget) s v)
@@ -92,52 +78,25 @@ module _ (w : Tables) (a : Label) (o : Ordered w) (in-a : Principal w a) (h : He
       post-bind _ _ _ _ _ p λ x l.
       post-require _ _ _ _ _ (λ _. post-bind _ _ _ _ _ q (λ y m. permit-shut budget branch x y (c _ _ l m))) (λ _. tt)
 
-  -- C holds of the branch labels in question, stays so inside, and shuts protected slots out
-  module _ (C : Label → Type 0) (stays : (x y : Label) → Principal w y → C x → C (meet (w .order) x y))
-      (shuts : (budget : ℕ) (x y branch : Label) → C branch → Shut w a h budget x y branch) (budget : ℕ) (u : Store) where
-    harmless : (branch : Label) → C branch → (s : Store) (t v : Expr) → Post (Harmless w a) Any (assignment (under w h budget) branch s t v)
-    harmless branch c s t v =
-        assignment-shut (Principal w) (Principal w) budget branch s t v (eval-principal budget s t) (eval-principal budget s v)
-        (λ x y _ _. shuts budget x y branch c)
-
-    mutual
-      unfolding exec execBody execs performed counted
-
-      confined : (c : Cmd) (branch : Label) → C branch → (s : State) → Like w a u s → Post (Like w a u) Any (exec (under w h budget) c branch s)
-      confined (cmd at end b) branch k s m = confined-body b at branch k s m
-
-      confined-body : (b : Body) (at : ℕ) (branch : Label) → C branch → (s : State) → Like w a u s
-          → Post (Like w a u) Any (execBody (under w h budget) b at branch s)
-      confined-body skip at branch k s m = post-ok _ _ _ m
-      confined-body (assign t v) at branch k s m =
-          post-bind (Harmless w a) _ _ _ _ (post-tried _ _ _ _ _ _ (harmless branch k (s .store) t v) tt)
-          (λ x l. post-ok _ _ _ (agree-tainted w a x (s .store) u l m))
-      confined-body (seq cs) at branch k s m = confined-all cs branch k s m
-      confined-body (if g c d) at branch k s m =
-          post-bind _ _ _ _ _ (post-tried _ _ _ _ _ _ (judge-principal budget (s .store) g) tt) λ j p.
-          post-choose _ _ _ _ _ _
-          (λ _. confined c (meet (w .order) branch (j .label)) (stays _ _ p k) (counted s) m)
-          (λ _. confined d (meet (w .order) branch (j .label)) (stays _ _ p k) (counted s) m)
-      confined-body (while g c) at branch k s m =
-          post-loop (Like w a u) Any (λ _ j. Principal w (j .label)) _ _ at (λ _ _. tt)
-          (λ t q. post-tried _ _ _ _ _ _ (judge-principal budget (t .store) g) tt) (λ t j l q. q)
-          (λ _ j p t q. confined c (meet (w .order) branch (j .label)) (stays _ _ p k) t q) (budget - s .steps) s m
-
-      confined-all : (cs : Cmds) (branch : Label) → C branch → (s : State) → Like w a u s
-          → Post (Like w a u) Any (execs (under w h budget) cs branch s)
-      confined-all nil branch k s m = post-ok _ _ _ m
-      confined-all (cons c cs) branch k s m = post-bind _ _ _ _ _ (confined c branch k s m) (λ t q. confined-all cs branch k t q)
+  harmless : h .endorsed ≡ false → (budget : ℕ) (branch : Label) → Tainted w a branch → (s : Store) (t v : Expr)
+      → Post (Harmless w a) Any (assignment (under w h budget) branch s t v)
+  harmless bare budget branch k s t v =
+      assignment-shut (Principal w) (Principal w) budget branch s t v (eval-principal (under w h budget) o s t) (eval-principal (under w h budget) o s v)
+      (λ x y _ _ i q. tainted-down w a o in-a _ _ (reliable-at w h bare budget i x y branch q .by-branch) k)
 
   -- in a region at or below the adversary, endorsed or not
   pub reach-confined : Tainted w a (h .region) → (budget : ℕ) (u : Store) (c : Cmd) (branch : Label) (s : State)
       → Like w a u s → Post (Like w a u) Any (exec (under w h budget) c branch s)
   reach-confined l budget u c branch s m =
-      confined (λ _. Unit {0}) (λ _ _ _ _. tt)
-      (λ budget _ _ _ _ i p _. tainted-down w a o in-a _ _ (authorised-at w h budget i p) l) budget u c branch tt s m
+      post-map _ _ _ _ _ (reach-keeps (under w h budget) a o in-a l u c branch s m) (λ _ q. q) (λ _ _. tt)
 
   -- under a tainted branch, not endorsed
   pub branch-confined : h .endorsed ≡ false → (budget : ℕ) (u : Store) (c : Cmd) (branch : Label) → Tainted w a branch
       → (s : State) → Like w a u s → Post (Like w a u) Any (exec (under w h budget) c branch s)
   branch-confined bare budget u c branch l s m =
-      confined (Tainted w a) (λ x y p k. tainted-left w a o in-a x y k p)
-      (λ budget x y branch k i _ q. tainted-down w a o in-a _ _ (reliable-at w h bare budget i x y branch q .by-branch) k) budget u c branch l s m
+      post-map _ _ _ _ _
+      (exec-keeps (under w h budget) (λ _. Unit {0}) (λ t. Agree w a t u) (Tainted w a)
+      (λ branch s g k. post-map _ _ _ _ _ (judge-principal budget s g) (λ j p. tainted-left w a o in-a _ _ k p) (λ _ _. tt))
+      (λ branch s t v k _ _ m. post-map _ _ _ _ _ (harmless bare budget branch k s t v) (λ x p. agree-tainted w a x s u p m) (λ _ _. tt))
+      c (literals-all _ (λ _. tt) c) branch l s m)
+      (λ _ q. q) (λ _ _. tt)

@@ -1,5 +1,5 @@
 -- Demand 3: noninterference under full provenance, on bytes. Assumes nothing.
-use Prim.Native.Nat.{ℕ, _+_, _*_, _<_}
+use Prim.Native.Nat.{ℕ, _*_, _<_}
 use mathlib.Core.Path.{_≡_, refl, sym, ap, _∙_}
 use mathlib.Core.Logic.{_↔_}
 use mathlib.Core.Bool.{true, false}
@@ -18,7 +18,7 @@ use Rattle.store.specs.Sheet.{Tables, ownerOf, slotValueAt, storeSheet}
 use Rattle.store.proofs.Result.{Any, post-all, post-at}
 use Rattle.store.proofs.Pairs.{Post₂, Each, post₂-ok, post₂-join, post₂-equal, post₂-require, post₂-at, post₂-refused-as, post₂-bind}
 use Rattle.store.specs.Held.{Ordered}
-use Rattle.store.proofs.Opening.{Opens, store-opens, values-one, slots-part}
+use Rattle.store.proofs.Opening.{Opens, store-opens, values-one, slot-part}
 use Rattle.programme.specs.Syntax.{Cmd}
 use Rattle.programme.specs.Code.{readBlock}
 use Rattle.programme.specs.declared.Header.{Header}
@@ -119,16 +119,14 @@ module _ (w : Tables) (a : Label) where
 -- Outputs
 
 -- slot i in the output of a run that finished
-output-part : (store programme old : List ℕ) (rule budget : ℕ) (f : Finished) → run store programme rule budget (length old) ≡ ok f
+pub output-part : (store programme old : List ℕ) (rule budget : ℕ) (f : Finished) → run store programme rule budget (length old) ≡ ok f
     → (i : ℕ) → i < f .slots
     → part (output store programme rule budget old) (slotWidth * i) slotWidth ≡ slotBytes (getD (f .state .store) i emptySlot)
 unfolding outputOf
 output-part store programme old rule budget f e i h =
-    let k : 0 + i ≡ i = omega arith in
-    ap (λ (r : Result Answer Finished). part (outputOf r old) (slotWidth * i) slotWidth) e ∙ slots-part (f .state .store) 0 (f .slots) i h
-    ∙ ap (λ (j : ℕ). slotBytes (getD (f .state .store) j emptySlot)) k
+    ap (λ (r : Result Answer Finished). part (outputOf r old) (slotWidth * i) slotWidth) e ∙ slot-part (f .state .store) (f .slots) i h
 
-opens : (store : List ℕ) (w : Tables) (s : Store) → storeSheet store ≡ ok (record { tables = w; store = s })
+pub opens : (store : List ℕ) (w : Tables) (s : Store) → storeSheet store ≡ ok (record { tables = w; store = s })
     → Opens store (record { tables = w; store = s })
 opens store w s e = post-at _ _ _ _ (store-opens store) e
 

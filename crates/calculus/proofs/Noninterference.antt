@@ -21,8 +21,8 @@ use Rattle.calculus.specs.Calculus.{Store, Labelled, Judged, Write, Stat
 use Rattle.calculus.specs.Blocks.{setting, runBlocks}
 use Rattle.calculus.proofs.Steps.{post-choose, post-tried, post-loop}
 use Rattle.calculus.proofs.Pairs.{post₂-step, post₂-choose, post₂-loop, agree, apart}
-use Rattle.calculus.proofs.Taint.{Tainted, Principal, Agree, agree-refl, agree-join, agree-both, agree-tainted, tainted-down, principal-meet, tainted-left, tainted-right}
-use Rattle.calculus.proofs.Confined.{under, reliable-at, eval-principal, judge-label, judge-principal, Harmless, assignment-shut, Like, reach-confined, branch-confined}
+use Rattle.calculus.proofs.Taint.{Tainted, Principal, Agree, agree-refl, agree-join, agree-both, agree-tainted, tainted-down, principal-meet, tainted-left, tainted-right, eval-principal}
+use Rattle.calculus.proofs.Confined.{under, reliable-at, judge-label, judge-principal, Harmless, assignment-shut, Like, reach-confined, branch-confined}
 
 -- two states whose stores agree on the protected slots
 abbrev pub Alike : Tables → Label → State → State → Type 0
@@ -85,7 +85,7 @@ module _ (w : Tables) (a : Label) (o : Ordered w) (in-a : Principal w a) (h : He
       go (tainted k) =
           tainted (λ budget t m. post-bind (λ x. Tainted w a (x .label)) _ _ (eval (under w h budget) t e) _ (k budget t m)
           (λ x l. fetch-tainted budget t x (tainted-left w a o in-a _ _ l (o .owners _))))
-      go (steady r k) = at r k (rw (k 0 s (agree-refl w a s)) at (eval-principal w a o in-a h 0 s e))
+      go (steady r k) = at r k (rw (k 0 s (agree-refl w a s)) at (eval-principal (under w h 0) o s e))
 
   judge-same : (b b′ : ℕ) (s t : Store) (g : Expr) → eval (under w h b) s g ≡ eval (under w h b′) t g
       → Post₂ (λ (i j : Judged). (i ≡ j) × Principal w (i .label)) (judge (under w h b) s g) (judge (under w h b′) t g)
@@ -98,15 +98,15 @@ module _ (w : Tables) (a : Label) (o : Ordered w) (in-a : Principal w a) (h : He
         → Post (λ x. Tainted w a (x .label)) Any (eval (under w h budget) s t)
         → Post (Harmless w a) Any (assignment (under w h budget) branch s t v)
     target-tainted budget branch s t v p =
-        assignment-shut w a o in-a h (Tainted w a) (Principal w) budget branch s t v p (eval-principal w a o in-a h budget s v)
-        (λ x y l _ i _ q. tainted-down w a o in-a _ _ (reliable-at w h bare budget i x y branch q .by-target) l)
+        assignment-shut w a o in-a h (Tainted w a) (Principal w) budget branch s t v p (eval-principal (under w h budget) o s v)
+        (λ x y l _ i q. tainted-down w a o in-a _ _ (reliable-at w h bare budget i x y branch q .by-target) l)
 
     value-tainted : (budget : ℕ) (branch : Label) (s : Store) (t v : Expr)
         → Post (λ x. Tainted w a (x .label)) Any (eval (under w h budget) s v)
         → Post (Harmless w a) Any (assignment (under w h budget) branch s t v)
     value-tainted budget branch s t v p =
-        assignment-shut w a o in-a h (Principal w) (Tainted w a) budget branch s t v (eval-principal w a o in-a h budget s t) p
-        (λ x y _ l i _ q. tainted-down w a o in-a _ _ (reliable-at w h bare budget i x y branch q .by-value) l)
+        assignment-shut w a o in-a h (Principal w) (Tainted w a) budget branch s t v (eval-principal (under w h budget) o s t) p
+        (λ x y _ l i q. tainted-down w a o in-a _ _ (reliable-at w h bare budget i x y branch q .by-value) l)
 
     module _ (b b′ : ℕ) where
       assignment-same : (branch : Label) (s u : Store) (t v : Expr)

@@ -5,7 +5,7 @@ use mathlib.Core.Bool.{Bool, true, false}
 use lib.Dec.{eqb}
 use borrow.Author.Tests.{eqb-true}
 use Rattle.store.specs.Result.{Result, ok}
-use Rattle.store.proofs.Result.{Post, Any, Refuses, post-ok, post-refuse}
+use Rattle.store.proofs.Result.{Post, Any, Refuses, post-ok, post-refuse, post-at}
 use Rattle.calculus.specs.Rules.{RuleSet, accessControl, capability, explicitProvenance, fullProvenance, defaultRules, rulesOf}
 
 module _ (P : RuleSet → Type 0) (Q : ℕ → Type 0) (rule : ℕ) where
@@ -27,3 +27,8 @@ module _ (P : RuleSet → Type 0) (Q : ℕ → Type 0) (rule : ℕ) where
 -- a rule number is refused by 11 alone
 pub rules-refuse : (Q : ℕ → Type 0) (rule : ℕ) → Q 11 → Refuses Q (rulesOf rule)
 rules-refuse Q rule q = rules-post Any Q rule (λ _. tt) (λ _. tt) (λ _. tt) (λ _. tt) (λ _. tt) q
+
+-- a rule number has one rule set
+pub rules-one : (rule : ℕ) (x y : RuleSet) → rulesOf rule ≡ ok x → rulesOf rule ≡ ok y → y ≡ x
+unfolding Post
+rules-one rule x y p q = post-at (λ (r : RuleSet). r ≡ x) Any (rulesOf rule) y (rw p refl) q

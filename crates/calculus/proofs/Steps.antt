@@ -66,7 +66,7 @@ module _ (w : Setting) (from : ℕ) where
   abbrev Stopped : Stop → Type 0
   Stopped = StopCounted (w .budget) from
 
-  tick : (s : State) → Ok s → s .steps < w .budget → Ok (counted s)
+  pub tick : (s : State) → Ok s → s .steps < w .budget → Ok (counted s)
   unfolding counted
   tick s c h = record { grown = omega (arith, c .grown); kept = omega arith }
 

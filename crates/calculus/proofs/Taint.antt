@@ -10,11 +10,13 @@ use lib.ListN.{length, getD, set, length-set}
 use lib.Seq.{getD-set-other}
 use borrow.Author.Tests.{eqb-true}
 use Rattle.lattice.specs.Order.{Label, mask, bit, below, meet}
-use Rattle.lattice.proofs.Order.{good-at, below-trans, meet-lt, meet-meets}
+use Rattle.lattice.proofs.Order.{good-at, top-lt, below-trans, meet-lt, meet-meets}
 use Rattle.store.specs.Value.{assigned, emptySlot}
 use Rattle.store.specs.Sheet.{Tables, ownerOf}
 use Rattle.store.specs.Held.{Ordered}
-use Rattle.calculus.specs.Calculus.{Store, Write, written}
+use Rattle.store.proofs.Result.{Post, Any, post-ok, post-require, post-bind}
+use Rattle.programme.specs.Syntax.{Expr, literal, read}
+use Rattle.calculus.specs.Calculus.{Setting, Store, Write, admit, fetch, eval, written}
 
 -- at or below the adversary a: said of labels, owners and regions
 abbrev pub Tainted : Tables → Label → Label → Type 0
@@ -94,3 +96,13 @@ module _ (w : Tables) (a : Label) where
 
     pub tainted-right : (x y : Label) → Principal w x → Tainted w a y → Tainted w a (meet (w .order) x y)
     tainted-right x y h l = tainted-down _ y (meet-meets (w .order) (o .table) x y h (inside y a in-a l) .lower-r) l
+
+-- labels are principals
+module _ (w : Setting) (o : Ordered (w .tables)) where
+  pub eval-principal : (s : Store) (e : Expr) → Post (λ x. Principal (w .tables) (x .label)) Any (eval w s e)
+  unfolding eval fetch admit
+  eval-principal s (literal v) = post-require _ _ _ _ _ (λ _. post-ok _ _ _ (top-lt (w .tables .order) (o .table))) (λ _. tt)
+  eval-principal s (read e) =
+      post-bind _ _ _ _ _ (eval-principal s e) λ x p.
+      post-require _ _ _ _ _
+      (λ _. post-require _ _ _ _ _ (λ _. post-ok _ _ _ (meet-lt (w .tables .order) (o .table) _ _ p (o .owners _))) (λ _. tt)) (λ _. tt)

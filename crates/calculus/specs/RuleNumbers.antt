@@ -4,7 +4,7 @@ use mathlib.Core.Path.{_≡_}
 use mathlib.Core.List.{List}
 use lib.ListN.{length}
 use Rattle.calculus.specs.Rules.{RuleSet, accessControl}
-use Rattle.calculus.specs.Run.{runUnder, answerOf, outputOf, answer, output}
+use Rattle.calculus.specs.Run.{runUnder, answerOf, outputOf, answer, output, EndsAlike}
 
 -- the answer and the output under the rule number are those under the rule set
 abbrev pub RunsUnder : RuleSet → ℕ → Type 0
@@ -16,9 +16,7 @@ RunsUnder rules rule =
 -- the answer and the output under the two rule numbers are the same
 abbrev pub RunsAlike : ℕ → ℕ → Type 0
 RunsAlike rule rule′ =
-    (store programme : List ℕ) (budget : ℕ) (old : List ℕ)
-    → (answer store programme rule budget (length old) ≡ answer store programme rule′ budget (length old))
-    × (output store programme rule budget old ≡ output store programme rule′ budget old)
+    (store programme : List ℕ) (budget : ℕ) (old : List ℕ) → EndsAlike store programme rule budget rule′ budget old
 
 pub record RuleNumbers : Type 0 where
   -- "The reporter and the fractionation job relied on 255 as access control: both now send 0 and must get the same bytes as before."

@@ -1,6 +1,7 @@
 -- The answer and the output for every store sheet, programme sheet, rule number, budget and output slice, refused ones too.
 -- Assumes nothing.
 use Prim.Native.Nat.{ℕ, _*_}
+use mathlib.Core.Path.{_≡_}
 use mathlib.Core.List.{List}
 use lib.ListN.{length}
 use lib.Dec.{leb, eqb}
@@ -59,3 +60,9 @@ answer store programme rule budget room = answerOf (run store programme rule bud
 -- .. and what its output slice then holds, where it held `old` before
 abbrev pub output : List ℕ → List ℕ → ℕ → ℕ → List ℕ → List ℕ
 output store programme rule budget old = outputOf (run store programme rule budget (length old)) old
+
+-- two runs over the same sheets and output, each with its rule number and budget, come to the same answer and leave the same output
+abbrev pub EndsAlike : List ℕ → List ℕ → ℕ → ℕ → ℕ → ℕ → List ℕ → Type 0
+EndsAlike store programme rule budget rule′ budget′ old =
+    (answer store programme rule budget (length old) ≡ answer store programme rule′ budget′ (length old))
+    × (output store programme rule budget old ≡ output store programme rule′ budget′ old)

@@ -6,3 +6,6 @@ pub mod Held
 pub mod Blocks
 pub mod Refusals
 pub mod Pairs
+pub mod Literals
+pub mod Formed
+pub mod Placed

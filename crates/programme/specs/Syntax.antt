@@ -45,3 +45,24 @@ unfoldable mutual
   pub marksAll : Cmds → List ℕ → List ℕ
   marksAll nil t = t
   marksAll (cons c cs) t = marksAll cs (marks c t)
+
+-- P holds of the literal that an expression starts from ..
+unfoldable pub LiteralOf : (Value → Type 0) → Expr → Type 0
+LiteralOf P (literal v) = P v
+LiteralOf P (read e) = LiteralOf P e
+
+-- .. and of every literal of a command
+unfoldable mutual
+  pub Literals : (Value → Type 0) → Cmd → Type 0
+  Literals P (cmd at end b) = LiteralsBody P b
+
+  pub LiteralsBody : (Value → Type 0) → Body → Type 0
+  LiteralsBody P skip = Unit {0}
+  LiteralsBody P (assign x v) = LiteralOf P x × LiteralOf P v
+  LiteralsBody P (seq cs) = LiteralsAll P cs
+  LiteralsBody P (if g c d) = LiteralOf P g × Literals P c × Literals P d
+  LiteralsBody P (while g c) = LiteralOf P g × Literals P c
+
+  pub LiteralsAll : (Value → Type 0) → Cmds → Type 0
+  LiteralsAll P nil = Unit {0}
+  LiteralsAll P (cons c cs) = Literals P c × LiteralsAll P cs

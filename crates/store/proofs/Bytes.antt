@@ -56,6 +56,22 @@ value-read v k h =
     ap₂ (λ (x p : ℕ). record { kind = x; payload = p }) (omega arith)
     (shifted (v .kind % 256) payloadWidth (numberBytes payloadWidth (v .payload)) 0 ∙ number-read payloadWidth (v .payload) h)
 
+-- a number too large for its bytes loses its upper part, and what is left has the same bytes
+number-again : (width x : ℕ) → numberBytes width (numberAt width (numberBytes width x) 0) ≡ numberBytes width x
+unfolding numberAt numberBytes
+number-again zero x = refl
+number-again (suc width) x =
+    let e = shifted (x % 256) width (numberBytes width (x / 256)) 0 in
+    ap₂ (λ (b : ℕ) (l : List ℕ). b ∷ l) (omega arith) (ap (numberBytes width) (omega (arith, e)) ∙ number-again width (x / 256))
+
+-- a value that was written and read has the same bytes again
+pub value-again : (v : Value) → valueBytes (valueAt (valueBytes v) 0) ≡ valueBytes v
+unfolding valueAt valueBytes
+value-again v =
+    ap₂ (λ (b : ℕ) (l : List ℕ). b ∷ l) (omega arith)
+    (ap (numberBytes payloadWidth) (shifted (v .kind % 256) payloadWidth (numberBytes payloadWidth (v .payload)) 0)
+    ∙ number-again payloadWidth (v .payload))
+
 -- a value's bytes, cut out
 number-part : (width n : ℕ) (s : List ℕ) (at i : ℕ) → i + width ≤ n → numberAt width (part s at n) i ≡ numberAt width s (at + i)
 unfolding numberAt

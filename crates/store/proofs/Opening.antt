@@ -126,8 +126,8 @@ values-one s s′ at at′ h h′ e =
 
 -- The output
 
--- slot i's part of the output
-pub slots-part : (store : List Slot) (j n i : ℕ) → i < n
+-- the i-th slot's part of the bytes of the slots from the j-th on
+slots-part : (store : List Slot) (j n i : ℕ) → i < n
     → part (slotsBytes store j n) (slotWidth * i) slotWidth ≡ slotBytes (getD store (j + i) emptySlot)
 unfolding slotsBytes
 slots-part store j zero i h = absurd (omega arith)
@@ -144,3 +144,9 @@ slots-part store j (suc n) (suc i) h =
     ∙ ap (λ (l : List ℕ). take slotWidth l) (drop-append-add first rest (slotWidth * i))
     ∙ slots-part store (j + 1) n i (omega arith)
     ∙ ap (λ (x : ℕ). slotBytes (getD store x emptySlot)) k
+
+-- slot i's part of the output
+pub slot-part : (store : List Slot) (n i : ℕ) → i < n → part (slotsBytes store 0 n) (slotWidth * i) slotWidth ≡ slotBytes (getD store i emptySlot)
+slot-part store n i h =
+    let k : 0 + i ≡ i = omega arith in
+    slots-part store 0 n i h ∙ ap (λ (j : ℕ). slotBytes (getD store j emptySlot)) k

@@ -21,6 +21,12 @@ module _ {E A : Type 0} where
   unfolding Post
   post-refuse P Q e q = q
 
+  -- an answer is what it is
+  pub post-self : (r : Result E A) → Post (λ a. r ≡ ok a) Any r
+  unfolding Post
+  post-self (ok a) = refl
+  post-self (refuse e) = tt
+
   pub post-all : (P : A → Type 0) (Q : E → Type 0) (r : Result E A) → ((a : A) → P a) → ((e : E) → Q e) → Post P Q r
   unfolding Post
   post-all P Q (ok a) p q = p a

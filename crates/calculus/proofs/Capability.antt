@@ -1,0 +1,127 @@
+-- Under capability, where no write view of a protected slot is at hand, none comes up. Assumes nothing.
+use Prim.Native.Nat.{ℕ, _≤_, _<_}
+use mathlib.Core.Path.{_≡_, refl}
+use mathlib.Core.Bool.{Bool, true, false, false≢true}
+use mathlib.Core.List.{List}
+use native.Mathlib.Decide.{decLt}
+use native.Mathlib.Omega.{arith}
+use borrow.Author.Tests.{ltb-true, eqb-true}
+use Rattle.lattice.specs.Tests.{_and_, _or_}
+use Rattle.lattice.specs.Order.{Label, below, top}
+use Rattle.lattice.proofs.Tests.{imp-at}
+use Rattle.store.specs.declared.Value.{Value}
+use Rattle.store.specs.Value.{writeView, isWriteView, viewed, wellFormed, opened, emptySlot}
+use Rattle.store.specs.Sheet.{Tables, Opening, ownerOf}
+use Rattle.store.specs.Held.{Ordered}
+use Rattle.store.proofs.Result.{Post, Any, post-ok, post-all, post-at, post-map, post-require, post-bind}
+use Rattle.store.proofs.Opening.{Opens, store-opens}
+use Rattle.programme.specs.Syntax.{Expr, Cmd, LiteralOf, Literals}
+use Rattle.programme.specs.Sheet.{Block}
+use Rattle.programme.proofs.Literals.{literals-all, literals-join}
+use Rattle.programme.proofs.Formed.{block-literals}
+use Rattle.programme.proofs.Placed.{IsBlock}
+use Rattle.calculus.specs.Rules.{capability, rulesOf, judgesViews}
+use Rattle.calculus.specs.Calculus.{Setting, Store, State, contents, inRegion, eval, permit, assignment, written, exec}
+use Rattle.calculus.specs.Blocks.{setting}
+use Rattle.calculus.specs.Isolation.{withinReach}
+use Rattle.calculus.specs.Kept.{Spares, BlocksSpare, CapabilitySafety}
+use Rattle.calculus.proofs.Rules.{rules-one}
+use Rattle.calculus.proofs.Taint.{Tainted, Principal, Agree, agree-refl, agree-tainted, tainted-down}
+use Rattle.calculus.proofs.Invariant.{exec-keeps, Slots, written-slots, eval-gives}
+use Rattle.calculus.proofs.Authority.{eval-held}
+use Rattle.calculus.proofs.Kept.{Ends, Keeps, keeps-under, protected-kept}
+
+-- a write view of a slot that the adversary may write, or no write view
+abbrev pub Low : Tables → Label → Value → Type 0
+Low w a v = isWriteView v ≡ true → Tainted w a (ownerOf w (viewed v))
+
+module _ (w : Tables) (a : Label) where
+  -- a well-formed write view is one of a slot of the store
+  pub view-inside : (v : Value) → wellFormed (w .slots) v ≡ true → isWriteView v ≡ true → viewed v < w .slots
+  unfolding wellFormed _and_ _or_
+  view-inside v f e = ltb-true _ _ (rw (eqb-true (v .kind) writeView e) at f)
+
+  pub spares-low : (v : Value) → wellFormed (w .slots) v ≡ true → Spares w a v → Low w a v
+  spares-low v f spares e = go (below (w .order) (ownerOf w (viewed v)) a) refl
+    where
+      go : (b : Bool) → below (w .order) (ownerOf w (viewed v)) a ≡ b → Tainted w a (ownerOf w (viewed v))
+      go true p = p
+      go false p = absurd (spares e (record { inside = view-inside v f e; above = p }))
+
+-- protected slots are as in u, and no slot holds a write view of one
+pub record Safe (w : Tables) (a : Label) (u s : Store) : Type 0 where
+  pub agree : Agree w a s u
+  pub low : Slots (Low w a) s
+
+-- where no expression gives a write view of a protected slot, all stays safe
+module _ (w : Setting) (a : Label) (u : Store) (P : Value → Type 0)
+    (gives : (s : Store) (e : Expr) → LiteralOf P e → Safe (w .tables) a u s → Post (λ x. Low (w .tables) a (x .value)) Any (eval w s e)) where
+  assigns : (branch : Label) (s : Store) (t v : Expr) → LiteralOf P t → LiteralOf P v → Safe (w .tables) a u s
+      → Post (λ x. Safe (w .tables) a u (written x s)) Any (assignment w branch s t v)
+  unfolding assignment permit
+  assigns branch s t v l k m =
+      post-bind _ _ _ _ _ (gives s t l m) λ x p.
+      post-require _ _ _ _ _
+      (λ e. post-bind _ _ _ _ _ (gives s v k m) λ y q.
+      post-require _ _ _ _ _
+      (λ _. post-require _ _ _ _ _
+      (λ _. post-ok _ _ _ (record { agree = agree-tainted (w .tables) a _ s u (p e) (m .agree); low = written-slots (Low (w .tables) a) _ s q (m .low) }))
+      (λ _. tt)) (λ _. tt)) (λ _. tt)
+
+  safe-keeps : (c : Cmd) → Literals P c → (branch : Label) → (s : State) → Safe (w .tables) a u (s .store) → Ends (Safe (w .tables) a u) (exec w c branch s)
+  safe-keeps c l branch s m =
+      exec-keeps w P (Safe (w .tables) a u) (λ _. Unit {0}) (λ _ s g _. post-all _ _ _ (λ _. tt) (λ _. tt))
+      (λ branch s t v _ l k m. assigns branch s t v l k m) c l branch tt s m
+
+module _ (w : Tables) (a : Label) (o : Ordered w) (in-a : Principal w a) (u : Store) (k : ℕ) (b : Block) where
+  -- within reach, the region has no authority over a protected slot
+  gives-within : Tainted w a (b .header .region) → (s : Store) (e : Expr) → Post (λ x. Low w a (x .value)) Any (eval (setting w capability k b) s e)
+  unfolding judgesViews inRegion _and_
+  gives-within l s e =
+      post-map _ _ _ _ _ (eval-held (setting w capability k b) s e)
+      (λ x p view. tainted-down w a o in-a _ _ (imp-at (isWriteView (x .value)) _ p view) l) (λ _ _. tt)
+
+-- blocks that are read have well-formed literals, so those outside reach have low ones
+pub low-literals : (w : Tables) (a : Label) (p : List ℕ) (j : ℕ) (b : Block) → IsBlock (w .slots) p j b
+    → Literals (Spares w a) (b .command) → Literals (Low w a) (b .command)
+low-literals w a p j b is spare =
+    literals-join _ _ _ (λ v f q. spares-low w a v f q) (b .command) (post-at _ _ _ _ (block-literals _ _) (is .code)) spare
+
+module _ (w : Tables) (a : Label) (o : Ordered w) (in-a : Principal w a) (u : Store) (p : List ℕ) (spare : BlocksSpare w a p) where
+  block-safe : (k j : ℕ) (b : Block) → IsBlock (w .slots) p j b → Keeps (Safe w a u) w capability k j b
+  block-safe k j b is s m = go (withinReach w a p j) refl
+    where
+      go : (t : Bool) → withinReach w a p j ≡ t → Ends (Safe w a u) (exec (setting w capability k b) (b .command) (top (w .order)) s)
+      go true e =
+          safe-keeps (setting w capability k b) a u (λ _. Unit {0})
+          (λ s x _ _. gives-within w a o in-a u k b (rw (is .header) e) s x) (b .command) (literals-all _ (λ _. tt) (b .command)) _ s m
+      -- outside, neither a literal nor a slot gives one
+      go false e =
+          safe-keeps (setting w capability k b) a u (Low w a) (λ s x l m. eval-gives (Low w a) (setting w capability k b) s x l (m .low)) (b .command)
+          (low-literals w a p j b is (spare j (is .inside) e (b .command) (is .code))) _ s m
+
+-- an opening store
+module _ (store : List ℕ) (o : Opening) (opens : Opens store o) (a : Label) where
+  -- past the last slot there are no views
+  past-low : (j : ℕ) → o .tables .slots ≤ j → Low (o .tables) a (contents (o .store) j)
+  unfolding emptySlot opened
+  past-low j h e = absurd (false≢true (rw (contents, opens .outside j h) at e))
+
+  pub low-at : (j : ℕ) → (j < o .tables .slots → Spares (o .tables) a (contents (o .store) j)) → Low (o .tables) a (contents (o .store) j)
+  low-at j spares = go (decLt j (o .tables .slots))
+    where
+      go : Dec (j < o .tables .slots) → Low (o .tables) a (contents (o .store) j)
+      go (yes h) = spares-low (o .tables) a _ (opens .formed j) (spares h)
+      go (no h) = past-low j (omega arith)
+
+pub capability-safety : CapabilitySafety
+unfolding rulesOf
+capability-safety a store programme budget old g in-a slots blocks =
+    let opens = post-at _ _ _ _ (store-opens store) (g .opens) in
+    let w = g .opening .tables in
+    let u = g .opening .store in
+    protected-kept store programme 1 budget old g (Safe w a u)
+    (record { agree = agree-refl w a u; low = λ j. low-at store (g .opening) opens a j (λ h. slots j h) })
+    (λ k j b is. keeps-under _ w (g .rules) capability k j b (rules-one 1 capability (g .rules) refl (g .ruled))
+    (block-safe w a (opens .ordered) in-a u programme blocks k j b is))
+    a (λ s m i p. m .agree .held i (p .above))

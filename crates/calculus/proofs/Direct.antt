@@ -1,0 +1,196 @@
+-- The adversary can write a slot that is not protected from it directly: one block of its own assigns a literal. Under rule 2.
+-- Assumes nothing.
+use Prim.Native.Nat.{ℕ, zero, suc, _+_, _*_, _%_, _≤_, _<_}
+use mathlib.Core.Path.{_≡_, refl, sym, ap, ap₂, _∙_}
+use mathlib.Core.Logic.{_⊎_, inl, inr, ⊎-elim}
+use mathlib.Core.Bool.{Bool, true, false}
+use mathlib.Core.List.{List, [], _∷_, _++_}
+use native.Mathlib.Omega.{arith}
+use lib.ListN.{getD, length, set, replicate, length-replicate}
+use lib.Dec.{ltb}
+use lib.Seq.{getD-set-same}
+use borrow.Author.Tests.{ltb-true, lt-ltb, le-leb, lt-leb, eqb-true, eq-eqb}
+use Rattle.lattice.specs.Tests.{_and_, _or_, _implies_, every}
+use Rattle.lattice.specs.Order.{Label, mostPrincipals, below, top}
+use Rattle.lattice.proofs.Tests.{and-l, and-r, or-at, or-l}
+use Rattle.lattice.proofs.Order.{Good, good-at, below-top}
+use Rattle.store.specs.declared.Answer.{Answer}
+use Rattle.store.specs.Result.{Result, ok, _>>=_, require, refusedAs}
+use Rattle.store.specs.Bytes.{numberAt, numberBytes, part}
+use Rattle.store.specs.declared.Value.{Value}
+use Rattle.store.specs.Value.{valueWidth, integer, truth, readView, writeView, kinds, is, wellFormed, valueAt, valueBytes, opened, assigned, emptySlot, slotWidth, slotBytes}
+use Rattle.store.specs.Sheet.{Tables, ownerOf, mostSlots, storeSheet}
+use Rattle.store.proofs.Bytes.{value-read, value-again}
+use Rattle.store.proofs.Opening.{Opens}
+use Rattle.programme.specs.Syntax.{literal, cmd, assign}
+use Rattle.programme.specs.Code.{upTo, readValue, exprBy, readExpr, exprAt, sorted, cmdByte, readAssign, bodyBy, readBody, readBlock}
+use Rattle.programme.specs.Sheet.{Block, kOf, endorsedBit, headerOf, startOf, headerGood, blockAt, blocksFrom, programmeSheet}
+use Rattle.programme.proofs.Values.{expr-is-literal}
+use Rattle.calculus.specs.Rules.{explicitProvenance, rulesOf, judgesViews, judgesRegion, labelsJudged, allAbove}
+use Rattle.calculus.specs.Calculus.{Store, State, inRegion, admit, eval, authorised, reliable, permit, assignment, counted, written, performed, step, exec, execBody}
+use Rattle.calculus.specs.Blocks.{runBlocks, start}
+use Rattle.calculus.specs.Run.{Finished, runProgramme, runOpened, runUnder, run, answerOf, output}
+use Rattle.calculus.specs.Vectors.{lit, one}
+use Rattle.calculus.specs.Isolation.{withinReach}
+use Rattle.calculus.specs.Deputy.{DirectWrite}
+use Rattle.calculus.proofs.Isolation.{output-part, opens}
+
+-- Values
+
+-- what is read back where v was written
+abbrev again : Value → Value
+again v = valueAt (valueBytes v) 0
+
+abbrev view : ℕ → Value
+view i = record { kind = writeView; payload = i }
+
+module _ (m : ℕ) (l : m ≤ mostSlots) (v : Value) (h : wellFormed m v ≡ true) where
+  -- a value that is well-formed is an integer, or its payload is small
+  formed-cases : (v .kind ≡ integer) ⊎ ((v .kind < kinds) × (v .payload < mostSlots))
+  unfolding wellFormed
+  formed-cases =
+      ⊎-elim
+      (λ x. ⊎-elim (λ e. inl (eqb-true _ _ e)) (λ t. inr (kind truth (omega arith) (and-l _ _ t), payload 2 (omega arith) (and-r _ _ t))) (or-at _ _ x))
+      (λ y. inr (⊎-elim (kind readView (omega arith)) (kind writeView (omega arith)) (or-at _ _ (and-l _ _ y)), payload m l (and-r _ _ y)))
+      (or-at _ _ h)
+    where
+      kind : (k : ℕ) → k < kinds → is k v ≡ true → v .kind < kinds
+      kind k i e = omega (arith, eqb-true (v .kind) k e)
+
+      payload : (k : ℕ) → k ≤ mostSlots → ltb (v .payload) k ≡ true → v .payload < mostSlots
+      payload k i e = omega (arith, ltb-true (v .payload) k e)
+
+  formed-kind : v .kind < kinds
+  formed-kind = ⊎-elim (λ e. omega arith) (λ x. x .0) formed-cases
+
+  integer-again : v .kind ≡ integer → wellFormed m (again v) ≡ true
+  unfolding wellFormed valueAt valueBytes
+  integer-again e = or-l _ _ (or-l _ _ (eq-eqb (v .kind % 256) integer (omega arith)))
+
+  -- so it is well-formed when it is read back
+  formed-again : wellFormed m (again v) ≡ true
+  formed-again = ⊎-elim integer-again (λ x. rw (value-read v (omega arith) (omega arith)) h) formed-cases
+
+-- Reading
+
+-- a literal where an expression is due
+literal-read : (m : ℕ) (s : List ℕ) (at : ℕ) (v : Value) → m ≤ mostSlots → getD s at 0 ≡ 0x10 → at + 1 + valueWidth ≤ length s
+    → valueAt s (at + 1) ≡ v → wellFormed m v ≡ true → exprAt m s at ≡ upTo (at + 1 + valueWidth) (literal v)
+unfolding readExpr exprBy readValue require _>>=_ valueAt
+literal-read m s at v l b fits e f =
+    let k : getD s (at + 1) 0 < kinds = omega (arith, ap (λ (x : Value). x .kind) e, formed-kind m l v f) in
+    let x : at < length s = omega arith in
+    let y : at + 1 < length s = omega arith in
+    rw (expr-is-literal s at x b, lt-ltb _ _ y, lt-ltb _ _ k, le-leb _ _ fits, e, f)
+
+-- the assignment of v to slot i
+abbrev code : ℕ → Value → List ℕ
+code i v = 0x21 ∷ (lit (valueBytes (view i)) ++ lit (valueBytes v))
+
+abbrev size : ℕ
+size = 1 + (1 + valueWidth) + (1 + valueWidth)
+
+view-formed : (m i : ℕ) → i < m → wellFormed m (view i) ≡ true
+unfolding wellFormed _and_ _or_
+view-formed m i h = lt-ltb i m h
+
+code-read : (m i : ℕ) (v : Value) → m ≤ mostSlots → i < m → wellFormed m v ≡ true
+    → readBlock m (code i v) ≡ ok (cmd 0 size (assign (literal (view i)) (literal (again v))))
+unfolding readBlock readBody bodyBy readAssign sorted cmdByte _>>=_ require valueAt valueBytes numberAt numberBytes
+code-read m i v l h f =
+    let e = value-read (view i) (omega arith) (omega arith) in
+    rw (
+      literal-read m (code i v) 1 (view i) l refl (omega arith) e (view-formed m i h),
+      literal-read m (code i v) (1 + 1 + valueWidth) (again v) l refl (omega arith) refl (formed-again m l v f),
+    )
+
+-- a principal's number leaves the endorsed bit clear
+header-read : (a : Label) → a < endorsedBit → headerOf a ≡ record { region = a; endorsed = false }
+unfolding headerOf
+header-read a h = ap₂ (λ (r : ℕ) (e : Bool). record { region = r; endorsed = e }) (omega arith) (lt-leb endorsedBit a h)
+
+-- the block, and the programme of this block alone
+abbrev block : Label → ℕ → Value → Block
+block a i v =
+    record { header = record { region = a; endorsed = false }; command = cmd 0 size (assign (literal (view i)) (literal (again v))) }
+
+abbrev programme : Label → ℕ → Value → List ℕ
+programme a i v = one a size (code i v)
+
+programme-read : (n m : ℕ) (a : Label) (i : ℕ) (v : Value) → n ≤ mostPrincipals → m ≤ mostSlots → a < n → i < m → wellFormed m v ≡ true
+    → programmeSheet n m (programme a i v) ≡ ok (block a i v ∷ [])
+unfolding programmeSheet headerGood blockAt blocksFrom startOf every _and_ _>>=_ require refusedAs numberAt valueBytes numberBytes
+programme-read n m a i v few l in-a h f = rw (header-read a (omega arith), lt-ltb a n in-a, code-read m i v l h f)
+
+-- The run
+
+-- the state after the one step
+abbrev after : ℕ → Value → Store → State
+after i v s = record { store = set s i (assigned (again v) (getD s i emptySlot)); steps = 1 }
+
+-- the slot's owner is at or below the region, and at or below the top, the label of both literals
+block-run : (w : Tables) (a : Label) (i : ℕ) (v : Value) (s : Store) → below (w .order) (ownerOf w i) a ≡ true
+    → below (w .order) (ownerOf w i) (top (w .order)) ≡ true
+    → runBlocks w explicitProvenance 1 0 (block a i v ∷ []) (start s) ≡ ok (after i v s)
+unfolding _>>=_ require refusedAs _and_ _or_ _implies_ judgesViews judgesRegion labelsJudged allAbove
+    inRegion admit eval authorised reliable permit assignment counted written performed step exec execBody runBlocks start
+block-run w a i v s own high = rw (own, high)
+
+module _ (store : List ℕ) (w : Tables) (s : Store) (sheet : storeSheet store ≡ ok (record { tables = w; store = s }))
+    (adversary : Label) (in-a : adversary < w .order .n)
+    (i : ℕ) (in-i : i < w .slots) (own : below (w .order) (ownerOf w i) adversary ≡ true)
+    (v : Value) (formed : wellFormed (w .slots) v ≡ true) where
+  o : Opens store (record { tables = w; store = s })
+  o = opens store w s sheet
+
+  t : Good (w .order)
+  t = good-at (w .order) (o .ordered .table)
+
+  abbrev sent : List ℕ
+  sent = programme adversary i v
+
+  abbrev blank : List ℕ
+  blank = replicate (slotWidth * w .slots) 0
+
+  abbrev ending : Finished
+  ending = record { blocks = 1; slots = w .slots; state = after i v s }
+
+  sent-run : run store sent 2 1 (length blank) ≡ ok ending
+  unfolding runProgramme runOpened runUnder run rulesOf _>>=_ require refusedAs
+  sent-run =
+      let high = below-top (w .order) (o .ordered .table) (ownerOf w i) (o .ordered .owners i) in
+      rw (
+        sheet,
+        programme-read (w .order .n) (w .slots) adversary i v (t .few) (o .small) in-a in-i formed,
+        eq-eqb (length blank) (slotWidth * w .slots) (length-replicate _ _),
+        block-run w adversary i v s own high,
+      )
+
+  -- what is read back has v's bytes
+  sent-part : part (output store sent 2 1 blank) (slotWidth * i) slotWidth ≡ slotBytes (opened v)
+  unfolding slotBytes opened assigned
+  sent-part =
+      output-part store sent blank 2 1 ending sent-run i in-i
+      ∙ ap slotBytes (getD-set-same s i _ emptySlot (omega (arith, o .small, o .sized))) ∙ value-again v
+
+  sent-reached : (j : ℕ) → j < kOf sent → withinReach w adversary sent j ≡ true
+  unfolding numberAt
+  sent-reached zero h = rw (header-read adversary (omega (arith, t .few))) (t .self adversary in-a)
+  sent-reached (suc j) h = absurd (omega arith)
+
+  pub direct-write : (out : List ℕ) → part out (slotWidth * i) slotWidth ≡ slotBytes (opened v) → DirectWrite 2 w adversary store i out
+  unfolding answerOf
+  direct-write out e =
+      record {
+        programme = sent;
+        end = output store sent 2 1 blank;
+        reached = sent-reached;
+        finished =
+            record {
+              budget = 1;
+              old = blank;
+              finishes = ap (λ (r : Result Answer Finished). answerOf r .number) sent-run;
+              ends = refl;
+            };
+        alike = e ∙ sym sent-part;
+      }

@@ -1,0 +1,95 @@
+-- Write integrity under every rule number: a block leaves the slots outside its region as they are. Assumes nothing.
+use Prim.Native.Nat.{ℕ, zero, suc, _+_}
+use mathlib.Core.Path.{_≡_, refl, sym, ap, _∙_}
+use mathlib.Core.Bool.{Bool, true, false, true≢false}
+use mathlib.Core.List.{List, [], _∷_}
+use native.Mathlib.Numerals.{add-one}
+use native.Mathlib.Omega.{arith}
+use lib.ListN.{getD, length, take}
+use lib.Seq.{getD-set-other}
+use Rattle.lattice.specs.Order.{below, top}
+use Rattle.lattice.proofs.Tests.{is-false, some-of}
+use Rattle.store.specs.Result.{Result, ok, refuse, _>>=_, refusedAs}
+use Rattle.store.specs.Value.{Slot, emptySlot, slotBytes}
+use Rattle.store.specs.Sheet.{Tables, ownerOf}
+use Rattle.store.proofs.Result.{post-all, post-map}
+use Rattle.programme.specs.Sheet.{Block, headerAt}
+use Rattle.programme.proofs.Literals.{literals-all}
+use Rattle.programme.proofs.Placed.{IsBlock, Placed, none, more}
+use Rattle.calculus.specs.Rules.{RuleSet}
+use Rattle.calculus.specs.Calculus.{Store, State, inRegion, written, exec}
+use Rattle.calculus.specs.Blocks.{Halt, haltIn, setting, runBlocks}
+use Rattle.calculus.specs.Faithful.{Good}
+use Rattle.calculus.specs.Kept.{reached, stateWithin, Integrity, WriteIntegrity}
+use Rattle.calculus.proofs.Invariant.{exec-keeps}
+use Rattle.calculus.proofs.Authority.{assigned-in-region}
+use Rattle.calculus.proofs.Kept.{Keeps, at-reached, blocks-keep, blocks-placed, put-out-keeps}
+
+module _ (w : Tables) (rules : RuleSet) (k i : ℕ) where
+  -- slot i holds d
+  abbrev Steady : Slot → Store → Type 0
+  Steady d s = getD s i emptySlot ≡ d
+
+  block-steady : (d : Slot) (j : ℕ) (b : Block) → below (w .order) (ownerOf w i) (b .header .region) ≡ false → Keeps (Steady d) w rules k j b
+  unfolding written inRegion
+  block-steady d j b out s m =
+      exec-keeps (setting w rules k b) (λ _. Unit {0}) (Steady d) (λ _. Unit {0}) (λ _ s g _. post-all _ _ _ (λ _. tt) (λ _. tt))
+      (λ branch s t v _ _ _ m. post-map _ _ _ _ _ (assigned-in-region (setting w rules k b) branch s t v)
+      (λ x p. getD-set-other s (x .slot) i _ emptySlot (λ e. true≢false (sym (rw (← e) at p) ∙ out)) ∙ m) (λ _ _. tt))
+      (b .command) (literals-all _ (λ _. tt) (b .command)) _ tt s m
+
+  -- two runs that begin alike
+  same-start : (r : Result Halt State) (f f′ : State → Result Halt State)
+      → ((t : State) → Steady (getD (reached (f′ t) .store) i emptySlot) (reached (f t) .store))
+      → Steady (getD (reached (r >>= f′) .store) i emptySlot) (reached (r >>= f) .store)
+  unfolding reached _>>=_
+  same-start (ok t) f f′ h = h t
+  same-start (refuse e) f f′ h = refl
+
+  -- slot i after the first j blocks and after one more
+  module _ (p : List ℕ) where
+    one-more : (n : ℕ) (bs : List Block) → Placed (IsBlock (w .slots) p) n bs → (j : ℕ) (s : State)
+        → below (w .order) (ownerOf w i) (headerAt p (n + j) .region) ≡ false
+        → Steady (getD (reached (runBlocks w rules k n (take j bs) s) .store) i emptySlot) (reached (runBlocks w rules k n (take (suc j) bs) s) .store)
+    unfolding reached runBlocks
+    one-more n [] none zero s out = refl
+    one-more n [] none (suc j) s out = refl
+    one-more n (b ∷ bs) (more is rest) zero s out =
+        let e : n + 0 ≡ n = omega arith in
+        at-reached (Steady _) _
+        (blocks-keep (Steady _) w rules k n (b ∷ []) (more (block-steady _ n b (rw (is .header) (rw e at out))) none) s refl)
+    one-more n (b ∷ bs) (more is rest) (suc j) s out =
+        let e : n + suc j ≡ n + 1 + j = omega arith in
+        same-start (refusedAs (haltIn n) (exec (setting w rules k b) (b .command) (top (w .order)) s))
+        (runBlocks w rules k (n + 1) (take (suc j) bs)) (runBlocks w rules k (n + 1) (take j bs)) (λ t. one-more (n + 1) bs rest j t (rw e at out))
+
+module _ (store programme : List ℕ) (rule budget : ℕ) (old : List ℕ) (g : Good store programme rule budget (length old)) where
+  abbrev w : Tables
+  w = g .opening .tables
+
+  abbrev owned : ℕ → ℕ → Bool
+  owned i j = below (w .order) (ownerOf w i) (headerAt programme j .region)
+
+  within : (k j i : ℕ) → owned i j ≡ false
+      → getD (stateWithin g k (j + 1) .store) i emptySlot ≡ getD (stateWithin g k j .store) i emptySlot
+  unfolding stateWithin
+  within k j i out =
+      let e : 0 + j ≡ j = omega arith in
+      rw (add-one) (one-more w (g .rules) k i programme 0 (g .blocks) (blocks-placed store programme rule budget old g) j _ (rw (← e) at out))
+
+  integrity : Integrity store programme rule budget old g
+  integrity =
+      record {
+        held = λ k j i changed. decided (owned i j) refl (λ e. changed (within k j i e));
+        put-out = λ e i h changed. decided _ refl λ out.
+            let x = put-out-keeps store programme rule budget old g (Steady w (g .rules) 0 i (getD (g .opening .store) i emptySlot)) refl
+            (λ k j b is. block-steady w (g .rules) k i _ j b (rw (is .header) (is-false _ (λ t. true≢false (sym (some-of _ (owned i) j (is .inside) t) ∙ out))))) e in
+            changed (x .2 i h ∙ ap slotBytes (x .1));
+      }
+    where
+      decided : (b : Bool) {c : Bool} → c ≡ b → (c ≡ false → ⊥) → c ≡ true
+      decided true e f = e
+      decided false e f = absurd (f e)
+
+pub write-integrity : WriteIntegrity
+write-integrity = integrity

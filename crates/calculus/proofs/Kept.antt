@@ -1,0 +1,89 @@
+-- What every block keeps, a run keeps, after any number of steps and in its output. Assumes nothing.
+use Prim.Native.Nat.{ℕ, _+_, _*_, _<_}
+use mathlib.Core.Path.{_≡_, ap, _∙_}
+use mathlib.Core.List.{List, [], _∷_}
+use lib.ListN.{length, getD}
+use lib.Seq.{take-length}
+use Rattle.lattice.specs.Order.{Label, top}
+use Rattle.store.specs.Result.{Result, ok, refuse}
+use Rattle.store.specs.Bytes.{part}
+use Rattle.store.specs.Value.{emptySlot, slotWidth, slotBytes}
+use Rattle.store.specs.Sheet.{Tables}
+use Rattle.store.proofs.Result.{Post, post-ok, post-at, post-refused-as, post-bind}
+use Rattle.store.proofs.Opening.{slot-part}
+use Rattle.programme.specs.Sheet.{Block}
+use Rattle.programme.proofs.Placed.{IsBlock, Placed, none, more, placed-map, programme-placed}
+use Rattle.calculus.specs.Rules.{RuleSet}
+use Rattle.calculus.specs.Calculus.{Store, State, Stop, exec}
+use Rattle.calculus.specs.Blocks.{Halt, setting, runBlocks, start}
+use Rattle.calculus.specs.Run.{answer, output}
+use Rattle.calculus.specs.Faithful.{Good}
+use Rattle.calculus.specs.Isolation.{StoresAgree}
+use Rattle.calculus.specs.Kept.{reached, stateWithin, storeAfter, ProtectedKept}
+use Rattle.calculus.proofs.Faithful.{faithfulness}
+
+module _ (I : Store → Type 0) where
+  -- I holds where a block ends or is stopped ..
+  abbrev pub Ends : Result Stop State → Type 0
+  Ends r = Post (λ s. I (s .store)) (λ e. I (e .state .store)) r
+
+  -- .. and where a run does
+  abbrev pub RunEnds : Result Halt State → Type 0
+  RunEnds r = Post (λ s. I (s .store)) (λ h. I (h .stop .state .store)) r
+
+  pub at-reached : (r : Result Halt State) → RunEnds r → I (reached r .store)
+  unfolding Post reached
+  at-reached (ok s) p = p
+  at-reached (refuse h) p = p
+
+  -- a block that keeps I from any state on
+  abbrev pub Keeps : Tables → RuleSet → ℕ → ℕ → Block → Type 0
+  Keeps w rules k j b = (s : State) → I (s .store) → Ends (exec (setting w rules k b) (b .command) (top (w .order)) s)
+
+  pub keeps-under : (w : Tables) (rules rules′ : RuleSet) (k j : ℕ) (b : Block) → rules ≡ rules′ → Keeps w rules′ k j b → Keeps w rules k j b
+  keeps-under w rules rules′ k j b e h = rw e h
+
+  pub blocks-keep : (w : Tables) (rules : RuleSet) (k i : ℕ) (bs : List Block) → Placed (Keeps w rules k) i bs
+      → (s : State) → I (s .store) → RunEnds (runBlocks w rules k i bs s)
+  unfolding runBlocks
+  blocks-keep w rules k i [] none s m = post-ok _ _ _ m
+  blocks-keep w rules k i (b ∷ bs) (more p ps) s m =
+      post-bind _ _ _ _ _ (post-refused-as _ _ _ _ (p s m)) (λ t q. blocks-keep w rules k (i + 1) bs ps t q)
+
+module _ (store programme : List ℕ) (rule budget : ℕ) (old : List ℕ) (g : Good store programme rule budget (length old)) where
+  abbrev w : Tables
+  w = g .opening .tables
+
+  pub blocks-placed : Placed (IsBlock (w .slots) programme) 0 (g .blocks)
+  blocks-placed = post-at _ _ _ _ (programme-placed _ _ programme) (g .taken)
+
+  module _ (I : Store → Type 0) (opens : I (g .opening .store))
+      (keeps : (k j : ℕ) (b : Block) → IsBlock (w .slots) programme j b → Keeps I w (g .rules) k j b) where
+    run-keeps : (k : ℕ) → RunEnds I (runBlocks w (g .rules) k 0 (g .blocks) (start (g .opening .store)))
+    unfolding start
+    run-keeps k = blocks-keep I w (g .rules) k 0 (g .blocks) (placed-map _ _ _ _ (keeps k) blocks-placed) _ opens
+
+    pub held-keeps : (k : ℕ) → I (storeAfter g k)
+    unfolding stateWithin
+    held-keeps k = at-reached I _ (rw (take-length (g .blocks)) (run-keeps k))
+
+    -- a run that finishes puts out a store of which I holds
+    pub put-out-keeps : answer store programme rule budget (length old) .number ≡ 0
+        → (s : Store) × I s
+        × ((i : ℕ) → i < w .slots → part (output store programme rule budget old) (slotWidth * i) slotWidth ≡ slotBytes (getD s i emptySlot))
+    put-out-keeps e =
+        let f = faithfulness store programme rule budget old g in
+        let x = f .finishes .0 e in (
+          x .0 .store,
+          post-at _ _ _ _ (run-keeps budget) (x .1),
+          λ i h.
+              ap (λ (l : List ℕ). part l (slotWidth * i) slotWidth) (f .ends (x .0) (x .1) .1) ∙ slot-part (x .0 .store) (w .slots) i h,
+        )
+
+    -- where I says that the protected slots are as they were, they are
+    pub protected-kept : (a : Label) → ((s : Store) → I s → StoresAgree w a s (g .opening .store)) → ProtectedKept a store programme rule budget old g
+    protected-kept a agree =
+        record {
+          held = λ k. agree _ (held-keeps k);
+          put-out = λ e i p. let x = put-out-keeps e in x .2 i (p .inside) ∙ ap slotBytes (agree (x .0) (x .1) i p);
+        }

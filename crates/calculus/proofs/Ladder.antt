@@ -1,0 +1,99 @@
+-- The rule ladder and larger budgets. Assumes nothing.
+use Prim.Native.Nat.{ℕ, _≤_}
+use mathlib.Core.Path.{_≡_, refl}
+use mathlib.Core.Logic.{⊎-elim}
+use mathlib.Core.Bool.{true}
+use mathlib.Core.List.{List, [], _∷_, _++_}
+use native.Mathlib.Omega.{arith}
+use lib.ListN.{length}
+use borrow.Author.Tests.{le-leb}
+use Rattle.lattice.specs.Tests.{_and_, _implies_}
+use Rattle.lattice.specs.declared.Table.{Table}
+use Rattle.lattice.specs.Order.{Label}
+use Rattle.lattice.proofs.Tests.{and-l, and-r, and-of, imp-at, or-at, or-l, or-r}
+use Rattle.store.specs.declared.Answer.{Answer}
+use Rattle.store.specs.Result.{Result, ok, refuse, _>>=_, refusedAs}
+use Rattle.store.specs.Sheet.{Tables}
+use Rattle.store.proofs.Result.{Post}
+use Rattle.programme.specs.Sheet.{Block}
+use Rattle.calculus.specs.Rules.{RuleSet, accessControl, capability, rulesOf, judgesViews, judgesRegion, labelsJudged, allAbove}
+use Rattle.calculus.specs.Calculus.{inRegion, authorised, reliable}
+use Rattle.calculus.specs.Blocks.{setting, mostBudget}
+use Rattle.calculus.specs.Run.{Finished, run, answerOf, outputOf}
+use Rattle.calculus.specs.Ladder.{Descent, Ladder, Budgets}
+use Rattle.calculus.proofs.Milder.{Milder, runs-alike}
+use Rattle.calculus.proofs.Unless.{Unless, same-test, unless-same, unless-then}
+
+-- a run that is not refused by `own` is the other run, so both have one answer and one output
+ends : {own : ℕ} (old : List ℕ) {r r′ : Result Answer Finished} → Unless (λ (a : Answer). a .number ≡ own) r r′
+    → (answerOf r .number ≡ own → ⊥) → (answerOf r ≡ answerOf r′) × (outputOf r old ≡ outputOf r′ old)
+unfolding Post answerOf
+ends old {r = ok f} u h = rw (u .else tt) (refl, refl)
+ends old {r = refuse a} u h = rw (u .else h) (refl, refl)
+
+-- where all of some labels stand above the owner, so do the first ones
+firsts-above : (t : Table) (owner : Label) (ls more : List Label) → allAbove t owner (ls ++ more) ≡ true → allAbove t owner ls ≡ true
+unfolding allAbove
+firsts-above t owner [] more e = refl
+firsts-above t owner (l ∷ ls) more e = and-of _ _ (and-l _ _ e) (firsts-above t owner ls more (and-r _ _ e))
+
+-- rules that judge alike but for the labels, of which the second judge only the first ones
+fewer-labels : (rules rules′ : RuleSet) → judgesViews rules′ ≡ judgesViews rules → judgesRegion rules′ ≡ judgesRegion rules
+    → ((x y branch : Label) → (more : List Label) × (labelsJudged rules x y branch ≡ labelsJudged rules′ x y branch ++ more))
+    → {budget : ℕ} (t : Tables) (b : Block) → Milder 16 (setting t rules budget b) (setting t rules′ budget b)
+unfolding inRegion authorised reliable
+fewer-labels rules rules′ p q f t b =
+    record {
+      views = λ v. rw p same-test;
+      regions = λ v _ _. rw q same-test;
+      labels = λ i x y branch. record {
+        passes = λ e. ⊎-elim (or-l _ _) (λ a. or-r _ _ (firsts-above _ _ _ (f x y branch .0) (rw (f x y branch .1) at a))) (or-at _ _ e);
+        else = λ o. absurd (o refl);
+      };
+      larger = omega arith;
+      spent = λ _. refl;
+    }
+
+-- from rule 1 to rule 0: a write view that rule 1 admits has its owner in the region, and that is all that rule 0 asks
+views-judged : {budget : ℕ} (t : Tables) (b : Block) → Milder 15 (setting t capability budget b) (setting t accessControl budget b)
+unfolding judgesViews judgesRegion labelsJudged inRegion authorised reliable _and_ _implies_
+views-judged t b =
+    record {
+      views = λ v. record { passes = λ _. refl; else = λ o. absurd (o refl) };
+      regions = λ v e h. record { passes = λ _. imp-at _ _ h e; else = λ _. imp-at _ _ h e };
+      labels = λ i x y branch. same-test;
+      larger = omega arith;
+      spent = λ _. refl;
+    }
+
+-- the same rules under a larger budget
+larger-budget : {rules : RuleSet} {budget budget′ : ℕ} → budget ≤ budget′
+    → (t : Tables) (b : Block) → Milder 17 (setting t rules budget b) (setting t rules budget′ b)
+unfolding inRegion authorised reliable
+larger-budget l t b =
+    record { views = λ v. same-test; regions = λ v _ _. same-test; labels = λ i x y branch. same-test; larger = l; spent = λ o. absurd (o refl) }
+
+pub descent : Descent
+unfolding run rulesOf refusedAs _>>=_ judgesViews judgesRegion labelsJudged
+descent =
+    record {
+      from-3-to-2 = λ _ _ _ old. ends old (runs-alike refl (fewer-labels _ _ refl refl (λ x y branch. (branch ∷ [], refl))) _ _ _);
+      from-2-to-0 = λ _ _ _ old. ends old (runs-alike refl (fewer-labels _ _ refl refl (λ x y branch. (x ∷ y ∷ [], refl))) _ _ _);
+      from-1-to-0 = λ _ _ _ old. ends old (runs-alike refl views-judged _ _ _);
+    }
+
+-- 0 is neither 15 nor 16
+pub ladder : Ladder
+ladder =
+    record {
+      from-3-to-2 = λ store programme budget old e. descent .from-3-to-2 store programme budget old (λ q. omega arith);
+      from-2-to-0 = λ store programme budget old e. descent .from-2-to-0 store programme budget old (λ q. omega arith);
+      from-1-to-0 = λ store programme budget old e. descent .from-1-to-0 store programme budget old (λ q. omega arith);
+    }
+
+pub budgets : Budgets
+unfolding run
+budgets store programme rule budget budget′ old l most =
+    ends old
+    (unless-then unless-same λ rules.
+    runs-alike (rw (le-leb budget mostBudget (omega arith), le-leb budget′ mostBudget most)) (larger-budget l) store programme (length old))

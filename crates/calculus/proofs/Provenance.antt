@@ -1,0 +1,98 @@
+-- Under explicit provenance, where no write view of a protected slot is at hand in a protected slot or as a literal, protected slots are not
+-- written. Assumes nothing.
+use Prim.Native.Nat.{ℕ}
+use mathlib.Core.Path.{_≡_, refl}
+use mathlib.Core.Logic.{_⊎_, inl, inr, ⊎-elim}
+use mathlib.Core.Bool.{Bool, true, false}
+use mathlib.Core.List.{List}
+use Rattle.lattice.specs.Tests.{_or_}
+use Rattle.lattice.specs.Order.{Label, below, top}
+use Rattle.lattice.proofs.Tests.{and-l}
+use Rattle.store.specs.Value.{viewed}
+use Rattle.store.specs.Sheet.{Tables, ownerOf}
+use Rattle.store.specs.Held.{Ordered}
+use Rattle.store.proofs.Result.{Post, Any, post-ok, post-all, post-at, post-map, post-require, post-bind}
+use Rattle.store.proofs.Opening.{store-opens}
+use Rattle.programme.specs.Syntax.{Expr, literal, read, LiteralOf}
+use Rattle.programme.specs.Sheet.{Block}
+use Rattle.programme.proofs.Placed.{IsBlock}
+use Rattle.calculus.specs.Rules.{explicitProvenance, rulesOf, labelsJudged, allAbove}
+use Rattle.calculus.specs.Calculus.{Store, Labelled, contents, admit, fetch, eval, reliable, permit, assignment, exec}
+use Rattle.calculus.specs.Blocks.{setting}
+use Rattle.calculus.specs.Isolation.{withinReach}
+use Rattle.calculus.specs.Deputy.{BareBlocksSpare, NoneEndorsedOutside, ProvenanceSafety}
+use Rattle.calculus.proofs.Rules.{rules-one}
+use Rattle.calculus.proofs.Taint.{Tainted, Principal, Agree, agree-refl, agree-tainted, tainted-down, tainted-right, eval-principal}
+use Rattle.calculus.proofs.Invariant.{exec-keeps}
+use Rattle.calculus.proofs.Authority.{reach-keeps}
+use Rattle.calculus.proofs.Kept.{Ends, Keeps, keeps-under, protected-kept}
+use Rattle.calculus.proofs.Capability.{Low, low-literals, low-at}
+
+module _ (w : Tables) (a : Label) (o : Ordered w) (in-a : Principal w a) (u : Store)
+    (high : (i : ℕ) → below (w .order) (ownerOf w i) a ≡ false → Low w a (contents u i)) where
+  -- what an expression gives is no write view of a protected slot, or its label is tainted
+  abbrev Shown : Labelled → Type 0
+  Shown x = Low w a (x .value) ⊎ Tainted w a (x .label)
+
+  -- a read from a slot of a tainted owner has a tainted label; any other slot is as it was in u
+  read-shown : (s : Store) → Agree w a s u → (j : ℕ) (m : Label) → (Tainted w a (ownerOf w j) → Tainted w a m)
+      → Shown (record { value = contents s j; label = m })
+  read-shown s agree j m taints = go (below (w .order) (ownerOf w j) a) refl
+    where
+      go : (b : Bool) → below (w .order) (ownerOf w j) a ≡ b → Shown (record { value = contents s j; label = m })
+      go true e = inr (taints e)
+      go false e = inl (rw (contents, agree .held j e) (high j e))
+
+  module _ (k : ℕ) (b : Block) (bare : b .header .endorsed ≡ false) where
+    shown : (s : Store) → Agree w a s u → (e : Expr) → LiteralOf (Low w a) e → Post Shown Any (eval (setting w explicitProvenance k b) s e)
+    unfolding eval fetch admit LiteralOf
+    shown s m (literal v) l = post-require _ _ _ _ _ (λ _. post-ok _ _ _ (inl l)) (λ _. tt)
+    shown s m (read e) l =
+        post-bind _ _ _ _ _ (eval-principal (setting w explicitProvenance k b) o s e) λ x h.
+        post-require _ _ _ _ _
+        (λ _. post-require _ _ _ _ _
+        (λ _. post-ok _ _ _ (read-shown s m (viewed (x .value)) _ (λ t. tainted-right w a o in-a _ _ h t))) (λ _. tt)) (λ _. tt)
+
+    -- the target's label stands at or above the slot's owner
+    by-target : (i : ℕ) (x y branch : Label) → reliable (setting w explicitProvenance k b) i (labelsJudged explicitProvenance x y branch) ≡ true
+        → below (w .order) (ownerOf w i) x ≡ true
+    unfolding reliable labelsJudged allAbove _or_
+    by-target i x y branch e = and-l (below (w .order) (ownerOf w i) x) _ (rw bare at e)
+
+    unprotected : (branch : Label) (s : Store) (t v : Expr) → LiteralOf (Low w a) t → Agree w a s u
+        → Post (λ x. Tainted w a (ownerOf w (x .slot))) Any (assignment (setting w explicitProvenance k b) branch s t v)
+    unfolding assignment permit
+    unprotected branch s t v l m =
+        post-bind _ _ _ _ _ (shown s m t l) λ x p.
+        post-require _ _ _ _ _
+        (λ view. post-bind (λ _. Unit {0}) _ _ _ _ (post-all _ _ _ (λ _. tt) (λ _. tt)) λ y _.
+        post-require _ _ _ _ _
+        (λ _. post-require _ _ _ _ _
+        (λ e. post-ok _ _ _ (⊎-elim (λ low. low view) (λ t. tainted-down w a o in-a _ _ (by-target _ _ _ _ e) t) p)) (λ _. tt)) (λ _. tt))
+        (λ _. tt)
+
+  module _ (p : List ℕ) (spare : BareBlocksSpare w a p) (bare : NoneEndorsedOutside w a p) where
+    block-agrees : (k j : ℕ) (b : Block) → IsBlock (w .slots) p j b → Keeps (λ t. Agree w a t u) w explicitProvenance k j b
+    block-agrees k j b is s m = go (withinReach w a p j) refl
+      where
+        go : (t : Bool) → withinReach w a p j ≡ t → Ends (λ t. Agree w a t u) (exec (setting w explicitProvenance k b) (b .command) (top (w .order)) s)
+        go true e = reach-keeps (setting w explicitProvenance k b) a o in-a (rw (is .header) e) u (b .command) _ s m
+        go false e =
+            let plain = bare j (is .inside) e in
+            exec-keeps (setting w explicitProvenance k b) (Low w a) (λ t. Agree w a t u) (λ _. Unit {0})
+            (λ _ s g _. post-all _ _ _ (λ _. tt) (λ _. tt))
+            (λ branch s t v _ l _ m. post-map _ _ _ _ _ (unprotected k b (rw (is .header) plain) branch s t v l m)
+            (λ x q. agree-tainted w a x s u q m) (λ _ _. tt))
+            (b .command) (low-literals w a p j b is (spare j (is .inside) e plain (b .command) (is .code))) _ tt s m
+
+pub provenance-safety : ProvenanceSafety
+unfolding rulesOf
+provenance-safety a store programme budget old g in-a slots blocks bare =
+    let opens = post-at _ _ _ _ (store-opens store) (g .opens) in
+    let w = g .opening .tables in
+    let u = g .opening .store in
+    protected-kept store programme 2 budget old g (λ t. Agree w a t u) (agree-refl w a u)
+    (λ k j b is. keeps-under _ w (g .rules) explicitProvenance k j b (rules-one 2 explicitProvenance (g .rules) refl (g .ruled))
+    (block-agrees w a (opens .ordered) in-a u
+    (λ i e. low-at store (g .opening) opens a i (λ h. slots i (record { inside = h; above = e }))) programme blocks bare k j b is))
+    a (λ s m i p. m .held i (p .above))

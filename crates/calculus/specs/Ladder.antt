@@ -1,0 +1,41 @@
+-- Document 02, N2: the rule ladder, and larger budgets, for every store sheet, programme sheet and output. Assumes nothing.
+use Prim.Native.Nat.{ℕ, _≤_}
+use mathlib.Core.Path.{_≡_}
+use mathlib.Core.List.{List}
+use lib.ListN.{length}
+use Rattle.calculus.specs.Blocks.{mostBudget}
+use Rattle.calculus.specs.Run.{answer, EndsAlike}
+
+-- a run that finishes under the first rule number finishes under the second, with the same answer and the same output
+abbrev pub FinishesToo : ℕ → ℕ → Type 0
+FinishesToo rule rule′ =
+    (store programme : List ℕ) (budget : ℕ) (old : List ℕ)
+    → answer store programme rule budget (length old) .number ≡ 0
+    → EndsAlike store programme rule budget rule′ budget old
+
+pub record Ladder : Type 0 where
+  -- "A run that finishes under rule 3 finishes under rule 2 with the same store and steps."
+  pub from-3-to-2 : FinishesToo 3 2
+  -- "The same holds from 2 to 0 and from 1 to 0."
+  pub from-2-to-0 : FinishesToo 2 0
+  pub from-1-to-0 : FinishesToo 1 0
+
+-- What can change on the way down: a run's answer differs under the second rule number only where the first refuses it by `own`.
+abbrev pub ChangesOnly : ℕ → ℕ → ℕ → Type 0
+ChangesOnly own rule rule′ =
+    (store programme : List ℕ) (budget : ℕ) (old : List ℕ)
+    → (answer store programme rule budget (length old) .number ≡ own → ⊥)
+    → EndsAlike store programme rule budget rule′ budget old
+
+pub record Descent : Type 0 where
+  pub from-3-to-2 : ChangesOnly 16 3 2
+  pub from-2-to-0 : ChangesOnly 16 2 0
+  pub from-1-to-0 : ChangesOnly 15 1 0
+
+-- "A larger allowed budget never alters a run that already got an answer other than 17."
+abbrev pub Budgets : Type 0
+Budgets =
+    (store programme : List ℕ) (rule budget budget′ : ℕ) (old : List ℕ)
+    → budget ≤ budget′ → budget′ ≤ mostBudget
+    → (answer store programme rule budget (length old) .number ≡ 17 → ⊥)
+    → EndsAlike store programme rule budget rule budget′ old
