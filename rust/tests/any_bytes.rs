@@ -3,154 +3,16 @@
 //! comes, the runner answers within its contract.
 
 mod common;
+mod random;
 
 use common::*;
+use random::*;
 use second_runner::{check_store, check_table, print, Answer};
-
-/// A fixed stream of numbers (xorshift), so that a failure comes again.
-struct Random(u64);
-
-impl Random {
-    /// The stream of this number, a few steps on, where near numbers differ.
-    fn stream(number: u64) -> Random {
-        let mut random = Random(0x9E37_79B9_7F4A_7C15 ^ (number + 1));
-        for _ in 0..8 {
-            random.next();
-        }
-        random
-    }
-
-    fn next(&mut self) -> u64 {
-        self.0 ^= self.0 << 13;
-        self.0 ^= self.0 >> 7;
-        self.0 ^= self.0 << 17;
-        self.0
-    }
-
-    fn below(&mut self, bound: usize) -> usize {
-        (self.next() >> 16) as usize % bound
-    }
-
-    fn one_in(&mut self, count: usize) -> bool {
-        self.below(count) == 0
-    }
-
-    fn bytes(&mut self, most: usize) -> Bytes {
-        let length = self.below(most + 1);
-        (0..length).map(|_| self.next() as u8).collect()
-    }
-}
 
 /// Streams apart from those of the good calls, which start at 0.
 const ALTERED: u64 = 1 << 32;
 const FORMLESS: u64 = 2 << 32;
 const FORMLESS_CODE: u64 = 3 << 32;
-
-/// Good tables: one principal, two ways to number a pair, a diamond, a chain.
-const TABLES: [&[u32]; 5] = [&[1], &PAIR, &[0b11, 0b10], &DIAMOND, &[0b111, 0b110, 0b100]];
-
-/// Sheets built by the grammar for a store of this many slots.
-struct Maker {
-    random: Random,
-    principals: usize,
-    slots: usize,
-}
-
-impl Maker {
-    fn value(&mut self) -> Bytes {
-        let kinds = if self.slots == 0 { 2 } else { 4 };
-        match self.random.below(kinds) {
-            0 => integer(self.random.next() as i64),
-            1 => truth(self.random.one_in(2)),
-            2 => read_view(self.random.below(self.slots) as i64),
-            _ => write_view(self.random.below(self.slots) as i64),
-        }
-    }
-
-    fn store(&mut self, masks: &[u32]) -> Bytes {
-        let mut slots = Vec::new();
-        for _ in 0..self.slots {
-            slots.push((self.random.below(self.principals) as u8, self.value()));
-        }
-        store(masks, &slots)
-    }
-
-    /// Some expression, often one that suits a guard or a target.
-    fn expression(&mut self, suited: Bytes) -> Bytes {
-        match self.random.below(5) {
-            0 => literal(self.value()),
-            1 if self.slots > 0 => {
-                let slot = self.random.below(self.slots) as i64;
-                reads(1 + self.random.below(3), slot)
-            }
-            _ => literal(suited),
-        }
-    }
-
-    fn guard(&mut self) -> Bytes {
-        let holds = truth(self.random.one_in(2));
-        self.expression(holds)
-    }
-
-    fn assignment(&mut self) -> Bytes {
-        let view = if self.slots == 0 {
-            integer(0)
-        } else {
-            write_view(self.random.below(self.slots) as i64)
-        };
-        let target = self.expression(view);
-        let suited = self.value();
-        assign(target, self.expression(suited))
-    }
-
-    fn command(&mut self, depth: usize) -> Bytes {
-        let forms = if depth == 0 { 4 } else { 8 };
-        match self.random.below(forms) {
-            0 => skip(),
-            1..=3 => self.assignment(),
-            4 | 5 => {
-                let count = 2 + self.random.below(2);
-                let parts: Vec<Bytes> = (0..count).map(|_| self.command(depth - 1)).collect();
-                sequence(&parts)
-            }
-            6 => {
-                let guard = self.guard();
-                let then_part = self.command(depth - 1);
-                if_else(guard, then_part, self.command(depth - 1))
-            }
-            _ => {
-                let guard = self.guard();
-                while_do(guard, self.command(depth - 1))
-            }
-        }
-    }
-
-    fn programme(&mut self) -> Bytes {
-        let mut blocks = Vec::new();
-        for _ in 0..self.random.below(4) {
-            let principal = self.random.below(self.principals) as u8;
-            let endorsed = if self.random.one_in(4) { 0x80 } else { 0 };
-            blocks.push((principal | endorsed, self.command(3)));
-        }
-        programme(&blocks)
-    }
-}
-
-/// A call whose sheets are good.
-fn good_call(seed: u64) -> Call {
-    let mut random = Random::stream(seed);
-    let masks = TABLES[random.below(TABLES.len())];
-    let slots = random.below(6);
-    let budget = random.below(40) as u32;
-    let rule = RULES[random.below(RULES.len())];
-    let mut maker = Maker {
-        random,
-        principals: masks.len(),
-        slots,
-    };
-    let (store, programme) = (maker.store(masks), maker.programme());
-    call(&store, &programme, rule).budget(budget)
-}
 
 /// The same with a few bytes altered, left out or put in.
 fn altered_call(seed: u64) -> Call {
@@ -326,48 +188,4 @@ fn formless_code_is_refused_inside_its_block() {
         counts[1..9].iter().sum::<u32>() + counts[11] + counts[12],
         0
     );
-}
-
-#[test]
-fn each_rule_gives_its_own_refusals_only() {
-    for seed in 0..20_000 {
-        let call = good_call(seed);
-        let number = |rule| call.rule(rule).play().0.number;
-        assert!(matches!(number(0), 0 | 13 | 14 | 17));
-        assert!(matches!(number(1), 0 | 13 | 15 | 17));
-        assert!(matches!(number(2), 0 | 13 | 14 | 16 | 17));
-        assert!(matches!(number(3), 0 | 13 | 14 | 16 | 17));
-    }
-}
-
-#[test]
-fn what_finishes_under_a_stricter_rule_finishes_alike_under_a_milder() {
-    let mut finished = [0; 3];
-    for seed in 0..20_000 {
-        let call = good_call(seed);
-        let ladder = [(3, 2), (2, 0), (1, 0)];
-        for (at, (strict, mild)) in ladder.into_iter().enumerate() {
-            let ended = call.rule(strict).play();
-            if ended.0.number == 0 {
-                assert_eq!(ended, call.rule(mild).play());
-                finished[at] += 1;
-            }
-        }
-        assert_eq!(call.rule(255).play(), call.rule(3).play());
-    }
-    assert!(finished.iter().all(|count| *count > 0));
-}
-
-#[test]
-fn a_larger_budget_alters_only_spent_runs() {
-    let mut compared = 0;
-    for seed in 0..20_000 {
-        let call = good_call(seed);
-        let ended = call.play();
-        if ended.0.number != 17 {
-            assert_eq!(ended, call.budget(call.budget + 7).play());
-            compared += 1;
-        }
-    }
-    assert!(compared > 0);
 }

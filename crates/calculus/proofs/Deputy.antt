@@ -21,7 +21,7 @@ use Rattle.calculus.specs.Faithful.{Good}
 use Rattle.calculus.specs.Isolation.{Protected, withinReach, Replaced, unchanged, exchanged, Replacement}
 use Rattle.calculus.specs.Deputy.{ProtectedSpare, BareBlocksSpare, NoneEndorsedOutside, FinishedRun, NoControl, DirectWrite, DeputySafety}
 use Rattle.calculus.proofs.Invariant.{Slots, slots-keep}
-use Rattle.calculus.proofs.Good.{good-over, good-of}
+use Rattle.calculus.proofs.Good.{good-run}
 use Rattle.calculus.proofs.Kept.{put-out-keeps}
 use Rattle.calculus.proofs.Isolation.{opens}
 use Rattle.calculus.proofs.Direct.{direct-write}
@@ -62,7 +62,7 @@ module _ (store : List ℕ) (w : Tables) (s : Store) (sheet : storeSheet store �
 
   module _ (q out : List ℕ) (x : FinishedRun 2 store q out) where
     abbrev good : Good store q 2 (x .budget) (length (x .old))
-    good = good-of store q 2 (x .budget) (length (x .old)) o sheet (good-over store q 2 (x .budget) (length (x .old)) o sheet (x .finishes))
+    good = good-run store q 2 (x .budget) (length (x .old)) o sheet (x .finishes)
 
     -- a value that is put out is well-formed
     record Put (i : ℕ) : Type 0 where

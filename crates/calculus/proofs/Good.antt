@@ -45,9 +45,10 @@ module _ (store programme : List ℕ) (rule budget room : ℕ) (o : Opening) (sh
   pub good-over : answer store programme rule budget room .number ≡ 0 → GoodOver o programme rule budget room
   good-over e = let f = run-finished store programme rule budget room e in post-at _ _ _ _ parts (f .1)
 
-  -- the opening is the one given
-  abbrev pub good-of : GoodOver o programme rule budget room → Good store programme rule budget room
-  good-of g =
+  -- its opening is the one given
+  abbrev pub good-run : answer store programme rule budget room .number ≡ 0 → Good store programme rule budget room
+  good-run e =
+      let g = good-over e in
       record {
         rules = g .rules;
         opening = o;

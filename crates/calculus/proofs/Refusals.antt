@@ -1,45 +1,56 @@
--- Every refusal of a run has a number from 1 on. Assumes nothing.
+-- What holds of the numbers that a run's steps are refused by. Assumes nothing.
 use Prim.Native.Nat.{ℕ, _+_, _-_}
+use mathlib.Core.Path.{_≡_}
+use mathlib.Core.Bool.{false}
 use mathlib.Core.List.{List, [], _∷_}
 use native.Mathlib.Omega.{arith}
 use Rattle.lattice.specs.Order.{Label}
 use Rattle.store.specs.Result.{Result}
+use Rattle.store.specs.declared.Value.{Value}
 use Rattle.store.specs.Sheet.{Tables}
-use Rattle.store.proofs.Result.{Any, Refuses, post-refused-as, refuses-ok, refuses-require, refuses-bind, Positive}
+use Rattle.store.proofs.Result.{Any, Refuses, post-require, post-refused-as, refuses-ok, refuses-require, refuses-bind, Positive}
 use Rattle.programme.specs.Sheet.{Block}
 use Rattle.programme.specs.Syntax.{Expr, literal, read, Cmd, cmd, Body, skip, assign, seq, if, while, Cmds, nil, cons}
-use Rattle.calculus.specs.Rules.{RuleSet}
-use Rattle.calculus.specs.Calculus.{Setting, Store, Labelled, State, Stop, admit, fetch, eval, judge, permit, assignment, counted, step, exec, execBody, execs}
+use Rattle.calculus.specs.Rules.{RuleSet, labelsJudged}
+use Rattle.calculus.specs.Calculus.{Setting, Store, Labelled, State, Stop, mayHold, admit, fetch, eval, judge, authorised, reliable, permit, assignment, counted, step, exec, execBody, execs}
 use Rattle.calculus.specs.Blocks.{Halt, setting, runBlocks}
 use Rattle.calculus.proofs.Steps.{post-choose, post-tried, post-loop}
 
-abbrev Numbered : Stop → Type 0
-Numbered e = Positive (e .number)
+-- Q holds of each number that a test under w can refuse a step by
+pub record Refusing (Q : ℕ → Type 0) (w : Setting) : Type 0 where
+  pub kind : Q 13
+  pub region : (i : ℕ) → authorised w i ≡ false → Q 14
+  pub view : (v : Value) → mayHold w v ≡ false → Q 15
+  pub labels : (i : ℕ) (x y branch : Label) → reliable w i (labelsJudged (w .rules) x y branch) ≡ false → Q 16
+  pub spent : Q 17
 
-module _ (w : Setting) where
-  admits : (x : Labelled) → Refuses Positive (admit w x)
+module _ (Q : ℕ → Type 0) (w : Setting) (q : Refusing Q w) where
+  abbrev Numbered : Stop → Type 0
+  Numbered e = Q (e .number)
+
+  admits : (x : Labelled) → Refuses Q (admit w x)
   unfolding admit
-  admits x = refuses-require _ _ _ _ (omega arith) (refuses-ok _ _)
+  admits x = post-require _ _ _ _ _ (λ _. refuses-ok _ _) (q .view (x .value))
 
-  evals : (s : Store) (e : Expr) → Refuses Positive (eval w s e)
+  evals : (s : Store) (e : Expr) → Refuses Q (eval w s e)
   unfolding eval fetch
   evals s (literal v) = admits _
-  evals s (read e) = refuses-bind _ _ _ (evals s e) (λ x. refuses-require _ _ _ _ (omega arith) (admits _))
+  evals s (read e) = refuses-bind _ _ _ (evals s e) (λ x. refuses-require _ _ _ _ (q .kind) (admits _))
 
-  judges : (s : Store) (g : Expr) → Refuses Positive (judge w s g)
+  judges : (s : Store) (g : Expr) → Refuses Q (judge w s g)
   unfolding judge
-  judges s g = refuses-bind _ _ _ (evals s g) (λ x. refuses-require _ _ _ _ (omega arith) (refuses-ok _ _))
+  judges s g = refuses-bind _ _ _ (evals s g) (λ x. refuses-require _ _ _ _ (q .kind) (refuses-ok _ _))
 
-  assigns : (branch : Label) (s : Store) (t v : Expr) → Refuses Positive (assignment w branch s t v)
+  assigns : (branch : Label) (s : Store) (t v : Expr) → Refuses Q (assignment w branch s t v)
   unfolding assignment permit
   assigns branch s t v =
       refuses-bind _ _ _ (evals s t) λ x.
-      refuses-require _ _ _ _ (omega arith) (
+      refuses-require _ _ _ _ (q .kind) (
       refuses-bind _ _ _ (evals s v) λ y.
-      refuses-require _ _ _ _ (omega arith) (refuses-require _ _ _ _ (omega arith) (refuses-ok _ _)))
+      post-require _ _ _ _ _ (λ _. post-require _ _ _ _ _ (λ _. refuses-ok _ _) (q .labels _ _ _ _)) (q .region _))
 
-  steps : {A : Type 0} (at : ℕ) (s : State) (r : Result ℕ A) → Refuses Positive r → Refuses Numbered (step w at s r)
-  steps at s r h = post-tried w at s _ _ _ h (omega arith)
+  steps : {A : Type 0} (at : ℕ) (s : State) (r : Result ℕ A) → Refuses Q r → Refuses Numbered (step w at s r)
+  steps at s r h = post-tried w at s _ _ _ h (q .spent)
 
   mutual
     unfolding exec execBody execs
@@ -55,17 +66,25 @@ module _ (w : Setting) where
         refuses-bind _ _ _ (steps at s _ (judges (s .store) g)) λ j.
         post-choose _ _ _ _ _ _ (λ _. exec-refuses c _ (counted s)) (λ _. exec-refuses d _ (counted s))
     body-refuses (while g c) at branch s =
-        post-loop Any Numbered (λ _ _. Unit {0}) _ _ at (λ _ _. omega arith) (λ t _. steps at t _ (judges (t .store) g)) (λ _ _ _ _. tt)
+        post-loop Any Numbered (λ _ _. Unit {0}) _ _ at (λ _ _. q .spent) (λ t _. steps at t _ (judges (t .store) g)) (λ _ _ _ _. tt)
         (λ _ j _ t _. exec-refuses c _ t) (w .budget - s .steps) s tt
 
     all-refuse : (cs : Cmds) (branch : Label) (s : State) → Refuses Numbered (execs w cs branch s)
     all-refuse nil branch s = refuses-ok _ _
     all-refuse (cons c cs) branch s = refuses-bind _ _ _ (exec-refuses c branch s) (λ t. all-refuse cs branch t)
 
+module _ (Q : ℕ → Type 0) (w : Tables) (rules : RuleSet) (budget : ℕ) (q : (b : Block) → Refusing Q (setting w rules budget b)) where
+  pub blocks-refuse-by : (i : ℕ) (bs : List Block) (s : State) → Refuses (λ (h : Halt). Q (h .stop .number)) (runBlocks w rules budget i bs s)
+  unfolding runBlocks
+  blocks-refuse-by i [] s = refuses-ok _ _
+  blocks-refuse-by i (b ∷ bs) s =
+      refuses-bind _ _ _ (post-refused-as _ _ _ _ (exec-refuses Q (setting w rules budget b) (q b) (b .command) _ s)) λ t.
+      blocks-refuse-by (i + 1) bs t
+
+-- every refusal of a run has a number from 1 on
 pub blocks-refuse : (w : Tables) (rules : RuleSet) (budget i : ℕ) (bs : List Block) (s : State)
-    → Refuses (λ (h : Halt). Numbered (h .stop)) (runBlocks w rules budget i bs s)
-unfolding runBlocks
-blocks-refuse w rules budget i [] s = refuses-ok _ _
-blocks-refuse w rules budget i (b ∷ bs) s =
-    refuses-bind _ _ _ (post-refused-as _ _ _ _ (exec-refuses (setting w rules budget b) (b .command) _ s)) λ t.
-    blocks-refuse w rules budget (i + 1) bs t
+    → Refuses (λ (h : Halt). Positive (h .stop .number)) (runBlocks w rules budget i bs s)
+blocks-refuse w rules budget i bs s =
+    blocks-refuse-by Positive w rules budget
+    (λ b. record { kind = omega arith; region = λ _ _. omega arith; view = λ _ _. omega arith; labels = λ _ _ _ _ _. omega arith; spent = omega arith })
+    i bs s

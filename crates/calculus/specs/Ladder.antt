@@ -5,6 +5,7 @@ use mathlib.Core.List.{List}
 use lib.ListN.{length}
 use Rattle.calculus.specs.Blocks.{mostBudget}
 use Rattle.calculus.specs.Run.{answer, EndsAlike}
+use Rattle.calculus.specs.Faithful.{Good}
 
 -- a run that finishes under the first rule number finishes under the second, with the same answer and the same output
 abbrev pub FinishesToo : ℕ → ℕ → Type 0
@@ -31,6 +32,23 @@ pub record Descent : Type 0 where
   pub from-3-to-2 : ChangesOnly 16 3 2
   pub from-2-to-0 : ChangesOnly 16 2 0
   pub from-1-to-0 : ChangesOnly 15 1 0
+
+-- What cannot happen: a run with good sheets and arguments is not refused by n under the rule number.
+abbrev pub NeverBy : ℕ → ℕ → Type 0
+NeverBy n rule =
+    (store programme : List ℕ) (budget : ℕ) (old : List ℕ) → Good store programme rule budget (length old)
+    → answer store programme rule budget (length old) .number ≡ n → ⊥
+
+pub record OwnRefusals : Type 0 where
+  -- rule 1 does not ask the region
+  pub no-14 : NeverBy 14 1
+  -- no other rule judges write views by themselves
+  pub no-15-by-0 : NeverBy 15 0
+  pub no-15-by-2 : NeverBy 15 2
+  pub no-15-by-3 : NeverBy 15 3
+  -- rules 0 and 1 judge no label
+  pub no-16-by-0 : NeverBy 16 0
+  pub no-16-by-1 : NeverBy 16 1
 
 -- "A larger allowed budget never alters a run that already got an answer other than 17."
 abbrev pub Budgets : Type 0

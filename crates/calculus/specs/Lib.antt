@@ -3,9 +3,10 @@ pub mod Calculus
 pub mod Blocks
 pub mod Run
 pub mod RuleNumbers
-pub mod Ladder
 pub mod Faithful
+pub mod Ladder
 pub mod Isolation
 pub mod Kept
 pub mod Deputy
 pub mod Vectors
+pub mod Descents

@@ -68,6 +68,12 @@ pub fn case(name: impl Into<String>, says: &'static str) -> Draft {
 }
 
 impl Draft {
+    /// The same with more to its name.
+    pub fn variant(mut self, word: &str) -> Draft {
+        self.name = format!("{} {word}", self.name);
+        self
+    }
+
     pub fn store(mut self, sheet: Bytes) -> Draft {
         self.store = sheet;
         self

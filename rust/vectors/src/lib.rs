@@ -13,6 +13,7 @@ pub mod paper;
 
 mod arguments;
 mod code;
+mod descents;
 mod finds;
 mod labels;
 mod programme_sheets;

@@ -1,7 +1,9 @@
 //! All cases, in the order in which they are played.
 
 use crate::case::Case;
-use crate::{arguments, code, finds, labels, paper, programme_sheets, steps, store_sheets};
+use crate::{
+    arguments, code, descents, finds, labels, paper, programme_sheets, steps, store_sheets,
+};
 
 pub fn cases() -> Vec<Case> {
     [
@@ -12,6 +14,7 @@ pub fn cases() -> Vec<Case> {
         code::cases(),
         steps::cases(),
         labels::cases(),
+        descents::cases(),
         paper::cases(),
     ]
     .into_iter()

@@ -1,0 +1,245 @@
+//! The rule ladder of document 02, N2, at random: an answer changes from rule 3
+//! to 2 and from 2 to 0 only if it was 16, from 1 to 0 only if it was 15, and
+//! with a larger budget only if it was 17. What it becomes then is what
+//! docs/LADDER.md says: each of that comes up, and nothing else.
+
+mod common;
+mod random;
+
+use common::*;
+use random::*;
+use second_runner::Answer;
+
+/// How many calls of each kind are played.
+const CALLS: u64 = 6_000;
+/// Streams apart from those of the grammar's calls, which start at 0.
+const FLOWS: u64 = 5 << 32;
+
+/// How often each number was an answer.
+type Counts = [u32; 18];
+
+/// Just these numbers came up.
+#[track_caller]
+fn check_numbers(counts: &Counts, expected: &[usize]) {
+    let came = (0..counts.len()).filter(|number| counts[*number] > 0);
+    assert_eq!(came.collect::<Vec<_>>(), expected, "{counts:?}");
+}
+
+/// Two runs of the same sheets, many times over: what became of an answer.
+#[derive(Default)]
+struct Became {
+    /// Answers that had to stay, with their outputs.
+    stayed: Counts,
+    /// What the others became at the step that was refused, and at a later one.
+    here: Counts,
+    later: Counts,
+}
+
+impl Became {
+    /// Answers other than `own` stay. Of a run refused by `own`, the steps
+    /// before are done again, and one more if the refused one is passed.
+    fn count(&mut self, own: u32, before: &Call, after: &Call) {
+        let (was, now) = (before.play(), after.play());
+        let number = now.0.number as usize;
+        if was.0.number != own {
+            assert_eq!(was, now);
+            self.stayed[number] += 1;
+        } else if was.0.steps == now.0.steps {
+            let place = |answer: Answer| (answer.block, answer.offset);
+            assert_eq!(place(was.0), place(now.0));
+            self.here[number] += 1;
+        } else {
+            assert!(was.0.steps < now.0.steps);
+            self.later[number] += 1;
+        }
+    }
+}
+
+fn from_rule_to_rule(strict: u8, mild: u8, own: u32) -> Became {
+    let mut became = Became::default();
+    for call in calls() {
+        became.count(own, &call.rule(strict), &call.rule(mild));
+    }
+    became
+}
+
+#[test]
+fn from_3_to_2_only_16_changes() {
+    let became = from_rule_to_rule(3, 2, 16);
+    check_numbers(&became.stayed, &[0, 13, 14, 17]);
+    check_numbers(&became.here, &[16]);
+    check_numbers(&became.later, &[0, 13, 14, 16, 17]);
+}
+
+#[test]
+fn from_2_to_0_only_16_changes() {
+    let became = from_rule_to_rule(2, 0, 16);
+    check_numbers(&became.stayed, &[0, 13, 14, 17]);
+    check_numbers(&became.here, &[]);
+    check_numbers(&became.later, &[0, 13, 14, 17]);
+}
+
+#[test]
+fn from_1_to_0_only_15_changes() {
+    let became = from_rule_to_rule(1, 0, 15);
+    check_numbers(&became.stayed, &[0, 13, 17]);
+    check_numbers(&became.here, &[13, 14]);
+    check_numbers(&became.later, &[0, 13, 14, 17]);
+}
+
+#[test]
+fn from_255_to_3_nothing_changes() {
+    let became = from_rule_to_rule(255, 3, u32::MAX);
+    check_numbers(&became.stayed, &[0, 13, 14, 16, 17]);
+}
+
+/// Neither of 1 and 2, nor of 1 and 3, lets through all that the other does.
+#[test]
+fn rule_1_stands_in_no_order_with_2_or_3() {
+    let finishes = |call: &Call, rule| call.rule(rule).play().0.number == 0;
+    for other in [2, 3] {
+        let only = |one, another| {
+            let apart = |call: &Call| finishes(call, one) && !finishes(call, another);
+            calls().filter(apart).count()
+        };
+        assert!(only(1, other) > 0 && only(other, 1) > 0);
+    }
+}
+
+/// Each number comes up under the rules that can give it, and under no other:
+/// 14 not under 1, 15 only there, 16 only under 2 and 3.
+#[test]
+fn each_rule_gives_its_own_refusals_only() {
+    for rule in RULES {
+        let mut counts = [0; 18];
+        for call in calls() {
+            counts[call.rule(rule).play().0.number as usize] += 1;
+        }
+        match rule {
+            0 => check_numbers(&counts, &[0, 13, 14, 17]),
+            1 => check_numbers(&counts, &[0, 13, 15, 17]),
+            _ => check_numbers(&counts, &[0, 13, 14, 16, 17]),
+        }
+    }
+}
+
+#[test]
+fn a_larger_budget_alters_only_spent_runs() {
+    for rule in RULES {
+        let mut became = Became::default();
+        for call in calls() {
+            let call = call.rule(rule);
+            became.count(17, &call, &call.budget(call.budget + 7));
+        }
+        let refusals: &[usize] = match rule {
+            0 => &[13, 14],
+            1 => &[13, 15],
+            _ => &[13, 14, 16],
+        };
+        check_numbers(&became.stayed, &[&[0], refusals].concat());
+        check_numbers(&became.here, refusals);
+        check_numbers(&became.later, &[&[0], refusals, &[17]].concat());
+    }
+}
+
+/// Calls of the grammar, and such in which low values flow up.
+fn calls() -> impl Iterator<Item = Call> {
+    let of_grammar = (0..CALLS).map(good_call);
+    of_grammar.chain((0..CALLS).map(values_flow))
+}
+
+/// Slots hold truth values, mostly; blocks copy them up and down, and branch on
+/// them. The budget is small.
+fn values_flow(seed: u64) -> Call {
+    let mut random = Random::stream(seed + FLOWS);
+    // The first table has one principal, and labels that are all the same.
+    let masks = TABLES[1 + random.below(TABLES.len() - 1)];
+    let budget = random.below(12) as u32;
+    let slots = 2 + random.below(3);
+    let mut author = Author {
+        random,
+        masks,
+        slots,
+    };
+    let (slots, blocks) = (author.store(), author.blocks());
+    call(&store(masks, &slots), &programme(&blocks), 0).budget(budget)
+}
+
+struct Author {
+    random: Random,
+    masks: &'static [u32],
+    slots: usize,
+}
+
+impl Author {
+    fn principal(&mut self) -> u8 {
+        self.random.below(self.masks.len()) as u8
+    }
+
+    /// The principal that is above all.
+    fn top(&self) -> u8 {
+        let below = self.masks.iter().map(|mask| mask.count_ones() as usize);
+        let mut below = below.zip(0..);
+        let top = below.find(|(count, _)| *count == self.masks.len());
+        top.expect("a good table").1
+    }
+
+    fn slot(&mut self) -> i64 {
+        self.random.below(self.slots) as i64
+    }
+
+    fn value(&mut self) -> Bytes {
+        match self.random.below(8) {
+            0 => integer(9),
+            1 => write_view(self.slot()),
+            _ => truth(self.random.one_in(2)),
+        }
+    }
+
+    /// For each slot its owner and its value.
+    fn store(&mut self) -> Vec<(u8, Bytes)> {
+        let slots = 0..self.slots;
+        slots.map(|_| (self.principal(), self.value())).collect()
+    }
+
+    /// For each block its region byte, often the top's, and its code.
+    fn blocks(&mut self) -> Vec<(u8, Bytes)> {
+        let count = 1 + self.random.below(3);
+        let blocks = (0..count).map(|_| {
+            let region = if self.random.one_in(2) {
+                self.top()
+            } else {
+                self.principal()
+            };
+            (region, self.command(2))
+        });
+        blocks.collect()
+    }
+
+    fn command(&mut self, depth: usize) -> Bytes {
+        match self.random.below(8) {
+            0 if depth > 0 => {
+                let first = self.command(depth - 1);
+                sequence(&[first, self.command(depth - 1)])
+            }
+            1 | 2 if depth > 0 => {
+                let guard = slot(self.slot());
+                let then_part = self.command(depth - 1);
+                if_else(guard, then_part, self.command(depth - 1))
+            }
+            3 if depth > 0 => {
+                let guard = slot(self.slot());
+                while_do(guard, self.command(depth - 1))
+            }
+            _ => {
+                let target = self.slot();
+                let value = if self.random.one_in(2) {
+                    slot(self.slot())
+                } else {
+                    literal(self.value())
+                };
+                set(target, value)
+            }
+        }
+    }
+}

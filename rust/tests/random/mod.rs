@@ -1,0 +1,176 @@
+//! Random calls whose sheets are built by the grammar, for every test file that
+//! plays such calls.
+
+// Each test file uses its own share of this.
+#![allow(dead_code)]
+
+use crate::common::*;
+
+/// A fixed stream of numbers (xorshift), so that a failure comes again.
+pub struct Random(u64);
+
+impl Random {
+    /// The stream of this number, a few steps on, where near numbers differ.
+    pub fn stream(number: u64) -> Random {
+        let mut random = Random(0x9E37_79B9_7F4A_7C15 ^ (number + 1));
+        for _ in 0..8 {
+            random.next();
+        }
+        random
+    }
+
+    pub fn next(&mut self) -> u64 {
+        self.0 ^= self.0 << 13;
+        self.0 ^= self.0 >> 7;
+        self.0 ^= self.0 << 17;
+        self.0
+    }
+
+    pub fn below(&mut self, bound: usize) -> usize {
+        (self.next() >> 16) as usize % bound
+    }
+
+    pub fn one_in(&mut self, count: usize) -> bool {
+        self.below(count) == 0
+    }
+
+    pub fn bytes(&mut self, most: usize) -> Bytes {
+        let length = self.below(most + 1);
+        (0..length).map(|_| self.next() as u8).collect()
+    }
+}
+
+/// Good tables: one principal, two ways to number a pair, a diamond, a chain.
+pub const TABLES: [&[u32]; 5] = [&[1], &PAIR, &[0b11, 0b10], &DIAMOND, &[0b111, 0b110, 0b100]];
+
+/// Sheets built by the grammar for a store of this many slots.
+struct Maker {
+    random: Random,
+    principals: usize,
+    slots: usize,
+}
+
+impl Maker {
+    fn value(&mut self) -> Bytes {
+        let kinds = if self.slots == 0 { 2 } else { 4 };
+        match self.random.below(kinds) {
+            0 => integer(self.random.next() as i64),
+            1 => truth(self.random.one_in(2)),
+            2 => read_view(self.random.below(self.slots) as i64),
+            _ => write_view(self.random.below(self.slots) as i64),
+        }
+    }
+
+    /// For each slot an owner and a value.
+    fn store(&mut self) -> Vec<(u8, Bytes)> {
+        let mut slots = Vec::new();
+        for _ in 0..self.slots {
+            slots.push((self.random.below(self.principals) as u8, self.value()));
+        }
+        slots
+    }
+
+    /// Some expression, often one that suits a guard or a target.
+    fn expression(&mut self, suited: Bytes) -> Bytes {
+        match self.random.below(5) {
+            0 => literal(self.value()),
+            1 if self.slots > 0 => {
+                let slot = self.random.below(self.slots) as i64;
+                reads(1 + self.random.below(3), slot)
+            }
+            _ => literal(suited),
+        }
+    }
+
+    fn guard(&mut self) -> Bytes {
+        let holds = truth(self.random.one_in(2));
+        self.expression(holds)
+    }
+
+    fn assignment(&mut self) -> Bytes {
+        let view = if self.slots == 0 {
+            integer(0)
+        } else {
+            write_view(self.random.below(self.slots) as i64)
+        };
+        let target = self.expression(view);
+        let suited = self.value();
+        assign(target, self.expression(suited))
+    }
+
+    fn command(&mut self, depth: usize) -> Bytes {
+        let forms = if depth == 0 { 4 } else { 8 };
+        match self.random.below(forms) {
+            0 => skip(),
+            1..=3 => self.assignment(),
+            4 | 5 => {
+                let count = 2 + self.random.below(2);
+                let parts: Vec<Bytes> = (0..count).map(|_| self.command(depth - 1)).collect();
+                sequence(&parts)
+            }
+            6 => {
+                let guard = self.guard();
+                let then_part = self.command(depth - 1);
+                if_else(guard, then_part, self.command(depth - 1))
+            }
+            _ => {
+                let guard = self.guard();
+                while_do(guard, self.command(depth - 1))
+            }
+        }
+    }
+
+    /// For each block a region byte and its code.
+    fn programme(&mut self) -> Vec<(u8, Bytes)> {
+        let mut blocks = Vec::new();
+        for _ in 0..self.random.below(4) {
+            let principal = self.random.below(self.principals) as u8;
+            let endorsed = if self.random.one_in(4) { 0x80 } else { 0 };
+            blocks.push((principal | endorsed, self.command(3)));
+        }
+        blocks
+    }
+}
+
+/// The parts of a call whose sheets are good.
+pub struct Parts {
+    pub masks: &'static [u32],
+    /// For each slot its owner and its value.
+    pub slots: Vec<(u8, Bytes)>,
+    /// For each block its region byte and its code.
+    pub blocks: Vec<(u8, Bytes)>,
+    pub rule: u8,
+    pub budget: u32,
+}
+
+impl Parts {
+    pub fn call(&self) -> Call {
+        let sheets = (store(self.masks, &self.slots), programme(&self.blocks));
+        call(&sheets.0, &sheets.1, self.rule).budget(self.budget)
+    }
+}
+
+pub fn good_parts(seed: u64) -> Parts {
+    let mut random = Random::stream(seed);
+    let masks = TABLES[random.below(TABLES.len())];
+    let slots = random.below(6);
+    let budget = random.below(40) as u32;
+    let rule = RULES[random.below(RULES.len())];
+    let mut maker = Maker {
+        random,
+        principals: masks.len(),
+        slots,
+    };
+    Parts {
+        masks,
+        slots: maker.store(),
+        blocks: maker.programme(),
+        rule,
+        budget,
+    }
+}
+
+/// A call whose sheets are good.
+pub fn good_call(seed: u64) -> Call {
+    good_parts(seed).call()
+}
