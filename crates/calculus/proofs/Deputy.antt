@@ -17,9 +17,10 @@ use Rattle.programme.specs.Sheet.{kOf, headerAt, codeOf}
 use Rattle.programme.proofs.Formed.{block-literals}
 use Rattle.calculus.specs.Calculus.{Store, contents}
 use Rattle.calculus.specs.Blocks.{setting}
+use Rattle.calculus.specs.Run.{FinishedRun}
 use Rattle.calculus.specs.Faithful.{Good}
 use Rattle.calculus.specs.Isolation.{Protected, withinReach, Replaced, unchanged, exchanged, Replacement}
-use Rattle.calculus.specs.Deputy.{ProtectedSpare, BareBlocksSpare, NoneEndorsedOutside, FinishedRun, NoControl, DirectWrite, DeputySafety}
+use Rattle.calculus.specs.Deputy.{ProtectedSpare, BareBlocksSpare, NoneEndorsedOutside, NoControl, DirectWrite, DeputySafety}
 use Rattle.calculus.proofs.Invariant.{Slots, slots-keep}
 use Rattle.calculus.proofs.Good.{good-run}
 use Rattle.calculus.proofs.Kept.{put-out-keeps}

@@ -87,8 +87,8 @@ example =
       agreed = refl;
       outside = refl;
       endorsed = refl;
-      left-run = record { rule = 3; budget = 10; old = blank; full = byNumber refl; finishes = refl; ends = refl };
-      right-run = record { rule = 3; budget = 10; old = blank; full = byNumber refl; finishes = refl; ends = refl };
+      left-run = record { rule = 3; full = byNumber refl; run = record { budget = 10; old = blank; finishes = refl; ends = refl } };
+      right-run = record { rule = 3; full = byNumber refl; run = record { budget = 10; old = blank; finishes = refl; ends = refl } };
     }
 
 bytes-of : (s : List ℕ) → every (length s) (λ i. ltb (getD s i 0) 256) ≡ true → Bytes s

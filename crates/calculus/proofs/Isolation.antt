@@ -150,11 +150,14 @@ module _ (store : List ℕ) (w : Tables) (s : Store) (sheet : storeSheet store �
   full-none =
       record {
         rule = 3;
-        budget = 0;
-        old = blank;
         full = byNumber refl;
-        finishes = ap (λ (r : Result Answer Finished). answerOf r .number) blank-run;
-        ends = refl;
+        run =
+            record {
+              budget = 0;
+              old = blank;
+              finishes = ap (λ (r : Result Answer Finished). answerOf r .number) blank-run;
+              ends = refl;
+            };
       }
 
   none-part : (i : ℕ) → i < w .slots
@@ -181,17 +184,17 @@ module _ (a : Label) (store store′ : List ℕ) (w : Tables) (s s′ : Store)
 
   forth : a < w .order .n → StoresAgree w a s s′ → RunsAgree w a store store′
   forth in-a h p bare q q′ r r′ out out′ x x′ i b =
-      let f = run-finished store q (x .rule) (x .budget) (length (x .old)) (x .finishes) in
-      let f′ = run-finished store′ q′ (x′ .rule) (x′ .budget) (length (x′ .old)) (x′ .finishes) in
+      let f = run-finished store q (x .rule) (x .run .budget) (length (x .run .old)) (x .run .finishes) in
+      let f′ = run-finished store′ q′ (x′ .rule) (x′ .run .budget) (length (x′ .run .old)) (x′ .run .finishes) in
       let e : Ends w a (f .0) (f′ .0) =
       post₂-at _ _ _ _ _
       (runs₂ w a (opens store w s sheet .ordered) in-a store store′ s s′ sheet sheet′ (opening-agrees h) p q q′ bare r r′
-      (x .rule) (x′ .rule) (x .budget) (x′ .budget) (length (x .old)) (length (x′ .old)) (x .full) (x′ .full)) (f .1) (f′ .1) in
-      ap (λ (l : List ℕ). part l (slotWidth * i) slotWidth) (x .ends)
-      ∙ output-part store q (x .old) (x .rule) (x .budget) (f .0) (f .1) i (rw (e .slots) (b .inside))
+      (x .rule) (x′ .rule) (x .run .budget) (x′ .run .budget) (length (x .run .old)) (length (x′ .run .old)) (x .full) (x′ .full)) (f .1) (f′ .1) in
+      ap (λ (l : List ℕ). part l (slotWidth * i) slotWidth) (x .run .ends)
+      ∙ output-part store q (x .run .old) (x .rule) (x .run .budget) (f .0) (f .1) i (rw (e .slots) (b .inside))
       ∙ ap slotBytes (e .agree .held i (b .above))
-      ∙ sym (output-part store′ q′ (x′ .old) (x′ .rule) (x′ .budget) (f′ .0) (f′ .1) i (rw (e .slots′) (b .inside)))
-      ∙ sym (ap (λ (l : List ℕ). part l (slotWidth * i) slotWidth) (x′ .ends))
+      ∙ sym (output-part store′ q′ (x′ .run .old) (x′ .rule) (x′ .run .budget) (f′ .0) (f′ .1) i (rw (e .slots′) (b .inside)))
+      ∙ sym (ap (λ (l : List ℕ). part l (slotWidth * i) slotWidth) (x′ .run .ends))
 
   back : Bytes store → Bytes store′ → RunsAgree w a store store′ → StoresAgree w a s s′
   unfolding numberAt

@@ -23,11 +23,11 @@ use Rattle.programme.proofs.Literals.{literals-join}
 use Rattle.calculus.specs.Rules.{rulesOf, judgesViews, judgesRegion, labelsJudged, allAbove}
 use Rattle.calculus.specs.Calculus.{Store, contents, inRegion, admit, fetch, eval, judge, authorised, reliable, permit, assignment, counted, written, performed, step, choose, exec, execBody}
 use Rattle.calculus.specs.Blocks.{runBlocks, start}
-use Rattle.calculus.specs.Run.{runProgramme, runOpened, runUnder, run, answerOf, outputOf}
+use Rattle.calculus.specs.Run.{FinishedRun, runProgramme, runOpened, runUnder, run, answerOf, outputOf}
 use Rattle.calculus.specs.Vectors.{int, bool, writes, assign, lit, read}
 use Rattle.calculus.specs.Isolation.{withinReach, unchanged, exchanged, Replaced, Replacement}
 use Rattle.calculus.specs.Kept.{Spares}
-use Rattle.calculus.specs.Deputy.{ProtectedSpare, BareBlocksSpare, FinishedRun, NoControl, DirectWrite, NoConfusedDeputy}
+use Rattle.calculus.specs.Deputy.{ProtectedSpare, BareBlocksSpare, NoControl, DirectWrite, NoConfusedDeputy}
 use Rattle.calculus.proofs.Taint.{tainted-down}
 use Rattle.calculus.proofs.Isolation.{opens}
 use Rattle.calculus.proofs.Good.{good-run}

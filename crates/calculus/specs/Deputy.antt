@@ -14,7 +14,7 @@ use Rattle.programme.specs.Syntax.{Cmd, Literals}
 use Rattle.programme.specs.Code.{readBlock}
 use Rattle.programme.specs.Sheet.{kOf, headerAt, codeOf}
 use Rattle.calculus.specs.Calculus.{Store, contents}
-use Rattle.calculus.specs.Run.{answer, output}
+use Rattle.calculus.specs.Run.{FinishedRun}
 use Rattle.calculus.specs.Faithful.{Good}
 use Rattle.calculus.specs.Isolation.{Protected, withinReach, Replacement}
 use Rattle.calculus.specs.Kept.{Spares, ProtectedKept}
@@ -42,13 +42,6 @@ ProvenanceSafety =
     → BareBlocksSpare (g .opening .tables) adversary programme
     → NoneEndorsedOutside (g .opening .tables) adversary programme
     → ProtectedKept adversary store programme 2 budget old g
-
--- one run under a rule number that finishes, with any budget
-pub record FinishedRun (rule : ℕ) (store programme out : List ℕ) : Type 0 where
-  pub budget : ℕ
-  pub old : List ℕ
-  pub finishes : answer store programme rule budget (length old) .number ≡ 0
-  pub ends : out ≡ output store programme rule budget old
 
 -- slot i of two outputs has the same value
 abbrev pub ValueAlike : ℕ → List ℕ → List ℕ → Type 0

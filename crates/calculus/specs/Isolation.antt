@@ -4,7 +4,7 @@ use mathlib.Core.Path.{_≡_}
 use mathlib.Core.Logic.{_↔_}
 use mathlib.Core.Bool.{Bool, true, false}
 use mathlib.Core.List.{List}
-use lib.ListN.{getD, length}
+use lib.ListN.{getD}
 use Rattle.lattice.specs.Order.{Label, below}
 use Rattle.store.specs.Result.{ok}
 use Rattle.store.specs.Bytes.{Bytes, part}
@@ -12,7 +12,7 @@ use Rattle.store.specs.Value.{slotWidth, emptySlot}
 use Rattle.store.specs.Sheet.{Tables, ownerOf, storeSheet}
 use Rattle.programme.specs.Sheet.{kOf, headerAt, codeOf}
 use Rattle.calculus.specs.Calculus.{Store}
-use Rattle.calculus.specs.Run.{answer, output}
+use Rattle.calculus.specs.Run.{FinishedRun}
 
 -- "A slot is protected from it .. when its owner does not stand at or below it."
 pub record Protected (w : Tables) (adversary : Label) (i : ℕ) : Type 0 where
@@ -52,14 +52,11 @@ pub data FullRule (rule : ℕ) : Type 0 where
   byNumber : rule ≡ 3 → FullRule rule
   byDefault : rule ≡ 255 → FullRule rule
 
--- one run under full provenance that finishes: "A run whose sheet or arguments are refused doesn't finish."
+-- one run under full provenance that finishes
 pub record FullRun (store programme out : List ℕ) : Type 0 where
   pub rule : ℕ
-  pub budget : ℕ
-  pub old : List ℕ
   pub full : FullRule rule
-  pub finishes : answer store programme rule budget (length old) .number ≡ 0
-  pub ends : out ≡ output store programme rule budget old
+  pub run : FinishedRun rule store programme out
 
 -- whatever an adversary sends, whenever both runs finish, the two outputs agree
 abbrev pub RunsAgree : Tables → Label → List ℕ → List ℕ → Type 0

@@ -66,3 +66,11 @@ abbrev pub EndsAlike : List ℕ → List ℕ → ℕ → ℕ → ℕ → ℕ →
 EndsAlike store programme rule budget rule′ budget′ old =
     (answer store programme rule budget (length old) ≡ answer store programme rule′ budget′ (length old))
     × (output store programme rule budget old ≡ output store programme rule′ budget′ old)
+
+-- a run under a rule number that finishes, with any budget, and what its output then holds: "A run whose sheet or arguments are refused
+-- doesn't finish."
+pub record FinishedRun (rule : ℕ) (store programme out : List ℕ) : Type 0 where
+  pub budget : ℕ
+  pub old : List ℕ
+  pub finishes : answer store programme rule budget (length old) .number ≡ 0
+  pub ends : out ≡ output store programme rule budget old
