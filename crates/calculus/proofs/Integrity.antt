@@ -56,7 +56,7 @@ module _ (w : Tables) (rules : RuleSet) (k i : ℕ) where
     one-more n [] none (suc j) s out = refl
     one-more n (b ∷ bs) (more is rest) zero s out =
         let e : n + 0 ≡ n = omega arith in
-        at-reached (Steady _) _
+        at-reached (λ t. Steady _ (t .store)) _
         (blocks-keep (Steady _) w rules k n (b ∷ []) (more (block-steady _ n b (rw (is .header) (rw e at out))) none) s refl)
     one-more n (b ∷ bs) (more is rest) (suc j) s out =
         let e : n + suc j ≡ n + 1 + j = omega arith in

@@ -22,6 +22,12 @@ use Rattle.calculus.specs.Isolation.{StoresAgree}
 use Rattle.calculus.specs.Kept.{reached, stateWithin, storeAfter, ProtectedKept}
 use Rattle.calculus.proofs.Faithful.{faithfulness}
 
+-- what holds where a run ends or is stopped
+pub at-reached : (P : State → Type 0) (r : Result Halt State) → Post P (λ h. P (h .stop .state)) r → P (reached r)
+unfolding Post reached
+at-reached P (ok s) p = p
+at-reached P (refuse h) p = p
+
 module _ (I : Store → Type 0) where
   -- I holds where a block ends or is stopped ..
   abbrev pub Ends : Result Stop State → Type 0
@@ -30,11 +36,6 @@ module _ (I : Store → Type 0) where
   -- .. and where a run does
   abbrev pub RunEnds : Result Halt State → Type 0
   RunEnds r = Post (λ s. I (s .store)) (λ h. I (h .stop .state .store)) r
-
-  pub at-reached : (r : Result Halt State) → RunEnds r → I (reached r .store)
-  unfolding Post reached
-  at-reached (ok s) p = p
-  at-reached (refuse h) p = p
 
   -- a block that keeps I from any state on
   abbrev pub Keeps : Tables → RuleSet → ℕ → ℕ → Block → Type 0
@@ -65,7 +66,7 @@ module _ (store programme : List ℕ) (rule budget : ℕ) (old : List ℕ) (g : 
 
     pub held-keeps : (k : ℕ) → I (storeAfter g k)
     unfolding stateWithin
-    held-keeps k = at-reached I _ (rw (take-length (g .blocks)) (run-keeps k))
+    held-keeps k = at-reached (λ s. I (s .store)) _ (rw (take-length (g .blocks)) (run-keeps k))
 
     -- a run that finishes puts out a store of which I holds
     pub put-out-keeps : answer store programme rule budget (length old) .number ≡ 0

@@ -19,6 +19,7 @@ pub mod Milder
 pub mod Ladder
 pub mod OwnRefusals
 pub mod Kept
+pub mod Stepwise
 pub mod Capability
 pub mod Integrity
 pub mod Provenance

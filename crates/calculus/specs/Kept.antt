@@ -93,8 +93,9 @@ CapabilitySafety =
 
 -- Write integrity
 
--- Source 003, theorem 2, under every rule number: a slot that changes while block j runs is owned at or below the block's region. Of the
--- output: a slot that changed is owned at or below the region of some block.
+-- Source 003, theorem 2, under every rule number: a slot that changes while block j runs is owned at or below the block's region. Block j
+-- starts in `stateWithin g k j` and is in `stateWithin g k (j + 1)` when the k steps are done, or it ends or is stopped there. Of the output:
+-- a slot that changed is owned at or below the region of some block.
 pub record Integrity (store programme : List ℕ) (rule budget : ℕ) (old : List ℕ)
     (g : Good store programme rule budget (length old)) : Type 0 where
   pub held : (k j i : ℕ)
