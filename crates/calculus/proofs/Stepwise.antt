@@ -1,5 +1,5 @@
 -- `stateAfter` goes through a run step by step: with one more step allowed, a run goes on by that step at most. Assumes nothing.
-use Prim.Native.Nat.{ℕ, zero, suc, _+_, _<_}
+use Prim.Native.Nat.{ℕ, zero, suc, _+_, _≤_, _<_}
 use mathlib.Core.Path.{_≡_, refl}
 use mathlib.Core.Bool.{Bool, true, false}
 use mathlib.Core.List.{List, [], _∷_}
@@ -18,6 +18,7 @@ use Rattle.calculus.specs.Calculus.{Setting, Store, Judged, State, Stop,
 use Rattle.calculus.specs.Blocks.{Halt, haltIn, setting, runBlocks, start}
 use Rattle.calculus.specs.Kept.{reached, stateWithin, Next, stays, judged, made, StepByStep}
 use Rattle.calculus.proofs.Steps.{Counted, post-tried, exec-counts}
+use Rattle.calculus.proofs.Blocks.{run-counts}
 use Rattle.calculus.proofs.While.{while-law}
 use Rattle.calculus.proofs.Kept.{at-reached}
 
@@ -192,5 +193,7 @@ step-by-step store programme rule budget room g =
       opens = rw (take-length (g .blocks)) (at-reached (λ t. t ≡ s) _ (run-twin 0 0 w (g .rules) 0 (g .blocks) .far s refl));
       goes = λ k. rw (take-length (g .blocks)) (next-reached (k + 1) _ _
           (run-twin k (k + 1) w (g .rules) 0 (g .blocks) .near refl s (record { grown = omega arith; kept = omega arith })));
+      counts = λ k. rw (take-length (g .blocks)) (at-reached (λ t. t .steps ≤ k) _ (post-map _ _ _ _ _
+          (run-counts w (g .rules) k 0 0 (g .blocks) s (record { grown = omega arith; kept = omega arith })) (λ t c. c .kept) (λ h c. c .kept)));
       ends = rw (take-length (g .blocks));
     }

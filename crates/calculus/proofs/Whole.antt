@@ -1,6 +1,6 @@
 -- Source 003, theorem 5, fails over whole runs that have endorsed blocks: an endorsed block stores a write view, and a later block that is
 -- not endorsed writes through it what the adversary chose. An example, by computation. Assumes nothing.
-use Prim.Native.Nat.{ℕ, zero, suc, _<_}
+use Prim.Native.Nat.{ℕ, zero, suc, _+_, _<_}
 use mathlib.Core.Path.{_≡_, refl, sym, ap, _∙_}
 use mathlib.Core.Logic.{⊎-elim}
 use mathlib.Core.Bool.{true, false, true≢false}
@@ -51,12 +51,22 @@ sheet = 2 ∷ 3 ∷ 0 ∷ 1 ∷ 0 ∷ 0 ∷ 0 ∷ 3 ∷ 0 ∷ 0 ∷ 0 ∷ 0 ∷ 
 abbrev through : ℕ → List ℕ
 through x = 0x21 ∷ (read 2 ++ lit (int x))
 
--- Block 0, in region 0: slot 0 := x. Block 1, in region 1, endorsed: slot 2 := write view of slot 1. Block 2, in region 1: if slot 0
--- then through slot 2 := 41 else through slot 2 := 42.
+-- block 0, in region 0: slot 0 := x
+abbrev chooses : ℕ → List ℕ
+chooses x = assign (writes 0) (lit (bool x))
+
+-- block 1, in region 1, endorsed: slot 2 := write view of slot 1
+abbrev stores : List ℕ
+stores = assign (writes 2) (lit (writes 1))
+
+-- block 2, in region 1: if slot 0 then through slot 2 := 41 else through slot 2 := 42
+abbrev obeys : List ℕ
+obeys = 0x23 ∷ (read 0 ++ through 41 ++ through 42)
+
 abbrev sent : ℕ → List ℕ
 sent x =
-    3 ∷ 62 ∷ 0 ∷ 0 ∷ 0x81 ∷ 1 ∷ 13 ∷ 0 ∷ 13 ∷ 0 ∷ 36 ∷ 0
-    ∷ (assign (writes 0) (lit (bool x)) ++ assign (writes 2) (lit (writes 1)) ++ 0x23 ∷ (read 0 ++ through 41 ++ through 42))
+    3 ∷ (length (chooses x) + length stores + length obeys) ∷ 0 ∷ 0 ∷ 0x81 ∷ 1
+    ∷ length (chooses x) ∷ 0 ∷ length stores ∷ 0 ∷ length obeys ∷ 0 ∷ (chooses x ++ stores ++ obeys)
 
 abbrev tables : Tables
 tables = tablesOf sheet

@@ -1,5 +1,5 @@
 -- What holds of the slots at every step of a run: document 02, N2, of rule 1; source 003, theorem 2, of every rule. Assumes nothing.
-use Prim.Native.Nat.{ℕ, _+_, _*_, _<_}
+use Prim.Native.Nat.{ℕ, _+_, _*_, _≤_, _<_}
 use mathlib.Core.Path.{_≡_}
 use mathlib.Core.Bool.{true, false}
 use mathlib.Core.List.{List}
@@ -50,6 +50,7 @@ pub data Next (s : State) : State → Type 0 where
 pub record Stepwise (store programme : List ℕ) (rule budget room : ℕ) (g : Good store programme rule budget room) : Type 0 where
   pub opens : stateAfter g 0 ≡ start (g .opening .store)
   pub goes : (k : ℕ) → Next (stateAfter g k) (stateAfter g (k + 1))
+  pub counts : (k : ℕ) → stateAfter g k .steps ≤ k
   pub ends : stateAfter g budget ≡ reached (ownRun g)
 
 abbrev pub StepByStep : Type 0

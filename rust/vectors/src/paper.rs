@@ -322,5 +322,35 @@ fn further() -> Vec<Case> {
         .rule(1)
         .finishes(1, &[integer(5), integer(1)]),
     );
+    cases.extend(theorem_5());
     cases
+}
+
+/// ⊥{•} ∘ ⊤endorsed{W rV := W rH} ∘ ⊤{if !R rA then !R rV := 41 else !R rV := 42},
+/// the adversary W rA := true or W rA := false. Slots: rA, rH, rV. The last
+/// region is not endorsed and contains no write view, but the view that the
+/// endorsed one stored is there: EPs let the adversary choose what rH gets.
+fn theorem_5() -> [Case; 3] {
+    let run = |sent: bool, rule: u8| {
+        let through = |payload| set_through(2, literal(integer(payload)));
+        case(
+            format!("paper theorem 5 with an endorsed block, {sent}, rule {rule}"),
+            "Theorem 5 (EPs prevents some more CDAs), read of a whole run",
+        )
+        .store(store(
+            &PAIR,
+            &[(LOW, truth(true)), (HIGH, integer(7)), (HIGH, integer(7))],
+        ))
+        .blocks(&[
+            (LOW, set(0, literal(truth(sent)))),
+            (HIGH_ENDORSED, set(2, literal(write_view(1)))),
+            (HIGH, if_else(slot(0), through(41), through(42))),
+        ])
+        .rule(rule)
+    };
+    [
+        run(true, 2).finishes(4, &[truth(true), integer(41), write_view(1)]),
+        run(false, 2).finishes(4, &[truth(false), integer(42), write_view(1)]),
+        run(true, 3).refused(16, 2, THEN_PART, 3),
+    ]
 }
