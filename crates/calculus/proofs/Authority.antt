@@ -43,7 +43,8 @@ module _ (w : Setting) where
       (λ _. tt)
 
 -- in a region at or below the adversary, endorsed or not, no protected slot is written
-module _ (w : Setting) (a : Label) (o : Ordered (w .tables)) (in-a : Principal (w .tables) a) (l : Tainted (w .tables) a (w .header .region)) (u : Store) where
+module _ (w : Setting) (a : Label) (o : Ordered (w .tables)) (in-a : Principal (w .tables) a)
+    (l : Tainted (w .tables) a (w .header .region)) (u : Store) where
   pub reach-keeps : (c : Cmd) (branch : Label) (s : State) → Agree (w .tables) a (s .store) u
       → Post (λ (t : State). Agree (w .tables) a (t .store) u) (λ (e : Stop). Agree (w .tables) a (e .state .store) u) (exec w c branch s)
   unfolding inRegion

@@ -65,17 +65,20 @@ module _ (w : Setting) (a : Label) (u : Store) (P : Value → Type 0)
       (λ e. post-bind _ _ _ _ _ (gives s v k m) λ y q.
       post-require _ _ _ _ _
       (λ _. post-require _ _ _ _ _
-      (λ _. post-ok _ _ _ (record { agree = agree-tainted (w .tables) a _ s u (p e) (m .agree); low = written-slots (Low (w .tables) a) _ s q (m .low) }))
+      (λ _. post-ok _ _ _
+      (record { agree = agree-tainted (w .tables) a _ s u (p e) (m .agree); low = written-slots (Low (w .tables) a) _ s q (m .low) }))
       (λ _. tt)) (λ _. tt)) (λ _. tt)
 
-  safe-keeps : (c : Cmd) → Literals P c → (branch : Label) → (s : State) → Safe (w .tables) a u (s .store) → Ends (Safe (w .tables) a u) (exec w c branch s)
+  safe-keeps : (c : Cmd) → Literals P c → (branch : Label) (s : State) → Safe (w .tables) a u (s .store)
+      → Ends (Safe (w .tables) a u) (exec w c branch s)
   safe-keeps c l branch s m =
       exec-keeps w P (Safe (w .tables) a u) (λ _. Unit {0}) (λ _ s g _. post-all _ _ _ (λ _. tt) (λ _. tt))
       (λ branch s t v _ l k m. assigns branch s t v l k m) c l branch tt s m
 
 module _ (w : Tables) (a : Label) (o : Ordered w) (in-a : Principal w a) (u : Store) (k : ℕ) (b : Block) where
   -- within reach, the region has no authority over a protected slot
-  gives-within : Tainted w a (b .header .region) → (s : Store) (e : Expr) → Post (λ x. Low w a (x .value)) Any (eval (setting w capability k b) s e)
+  gives-within : Tainted w a (b .header .region) → (s : Store) (e : Expr)
+      → Post (λ x. Low w a (x .value)) Any (eval (setting w capability k b) s e)
   unfolding judgesViews inRegion _and_
   gives-within l s e =
       post-map _ _ _ _ _ (eval-held (setting w capability k b) s e)
@@ -97,7 +100,8 @@ module _ (w : Tables) (a : Label) (o : Ordered w) (in-a : Principal w a) (u : St
           (λ s x _ _. gives-within w a o in-a u k b (rw (is .header) e) s x) (b .command) (literals-all _ (λ _. tt) (b .command)) _ s m
       -- outside, neither a literal nor a slot gives one
       go false e =
-          safe-keeps (setting w capability k b) a u (Low w a) (λ s x l m. eval-gives (Low w a) (setting w capability k b) s x l (m .low)) (b .command)
+          safe-keeps (setting w capability k b) a u (Low w a)
+          (λ s x l m. eval-gives (Low w a) (setting w capability k b) s x l (m .low)) (b .command)
           (low-literals w a p j b is (spare j (is .inside) e (b .command) (is .code))) _ s m
 
 -- an opening store

@@ -81,7 +81,8 @@ module _ (w : Tables) (a : Label) (o : Ordered w) (in-a : Principal w a) (h : He
   harmless : h .endorsed ≡ false → (budget : ℕ) (branch : Label) → Tainted w a branch → (s : Store) (t v : Expr)
       → Post (Harmless w a) Any (assignment (under w h budget) branch s t v)
   harmless bare budget branch k s t v =
-      assignment-shut (Principal w) (Principal w) budget branch s t v (eval-principal (under w h budget) o s t) (eval-principal (under w h budget) o s v)
+      assignment-shut (Principal w) (Principal w) budget branch s t v
+      (eval-principal (under w h budget) o s t) (eval-principal (under w h budget) o s v)
       (λ x y _ _ i q. tainted-down w a o in-a _ _ (reliable-at w h bare budget i x y branch q .by-branch) k)
 
   -- in a region at or below the adversary, endorsed or not

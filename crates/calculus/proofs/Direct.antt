@@ -50,7 +50,8 @@ module _ (m : ℕ) (l : m ≤ mostSlots) (v : Value) (h : wellFormed m v ≡ tru
   unfolding wellFormed
   formed-cases =
       ⊎-elim
-      (λ x. ⊎-elim (λ e. inl (eqb-true _ _ e)) (λ t. inr (kind truth (omega arith) (and-l _ _ t), payload 2 (omega arith) (and-r _ _ t))) (or-at _ _ x))
+      (λ x. ⊎-elim (λ e. inl (eqb-true _ _ e))
+      (λ t. inr (kind truth (omega arith) (and-l _ _ t), payload 2 (omega arith) (and-r _ _ t))) (or-at _ _ x))
       (λ y. inr (⊎-elim (kind readView (omega arith)) (kind writeView (omega arith)) (or-at _ _ (and-l _ _ y)), payload m l (and-r _ _ y)))
       (or-at _ _ h)
     where

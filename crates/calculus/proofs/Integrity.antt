@@ -1,5 +1,5 @@
 -- Write integrity under every rule number: a block leaves the slots outside its region as they are. Assumes nothing.
-use Prim.Native.Nat.{ℕ, zero, suc, _+_}
+use Prim.Native.Nat.{ℕ, zero, suc, _+_, _*_, _<_}
 use mathlib.Core.Path.{_≡_, refl, sym, ap, _∙_}
 use mathlib.Core.Bool.{Bool, true, false, true≢false}
 use mathlib.Core.List.{List, [], _∷_}
@@ -7,18 +7,21 @@ use native.Mathlib.Numerals.{add-one}
 use native.Mathlib.Omega.{arith}
 use lib.ListN.{getD, length, take}
 use lib.Seq.{getD-set-other}
+use Rattle.lattice.specs.Tests.{some}
 use Rattle.lattice.specs.Order.{below, top}
 use Rattle.lattice.proofs.Tests.{is-false, some-of}
 use Rattle.store.specs.Result.{Result, ok, refuse, _>>=_, refusedAs}
-use Rattle.store.specs.Value.{Slot, emptySlot, slotBytes}
+use Rattle.store.specs.Bytes.{part}
+use Rattle.store.specs.Value.{Slot, emptySlot, slotWidth, slotBytes}
 use Rattle.store.specs.Sheet.{Tables, ownerOf}
 use Rattle.store.proofs.Result.{post-all, post-map}
-use Rattle.programme.specs.Sheet.{Block, headerAt}
+use Rattle.programme.specs.Sheet.{Block, kOf, headerAt}
 use Rattle.programme.proofs.Literals.{literals-all}
 use Rattle.programme.proofs.Placed.{IsBlock, Placed, none, more}
 use Rattle.calculus.specs.Rules.{RuleSet}
 use Rattle.calculus.specs.Calculus.{Store, State, inRegion, written, exec}
 use Rattle.calculus.specs.Blocks.{Halt, haltIn, setting, runBlocks}
+use Rattle.calculus.specs.Run.{answer, output}
 use Rattle.calculus.specs.Faithful.{Good}
 use Rattle.calculus.specs.Kept.{reached, stateWithin, Integrity, WriteIntegrity}
 use Rattle.calculus.proofs.Invariant.{exec-keeps}
@@ -50,7 +53,8 @@ module _ (w : Tables) (rules : RuleSet) (k i : ℕ) where
   module _ (p : List ℕ) where
     one-more : (n : ℕ) (bs : List Block) → Placed (IsBlock (w .slots) p) n bs → (j : ℕ) (s : State)
         → below (w .order) (ownerOf w i) (headerAt p (n + j) .region) ≡ false
-        → Steady (getD (reached (runBlocks w rules k n (take j bs) s) .store) i emptySlot) (reached (runBlocks w rules k n (take (suc j) bs) s) .store)
+        → Steady (getD (reached (runBlocks w rules k n (take j bs) s) .store) i emptySlot)
+        (reached (runBlocks w rules k n (take (suc j) bs) s) .store)
     unfolding reached runBlocks
     one-more n [] none zero s out = refl
     one-more n [] none (suc j) s out = refl
@@ -77,14 +81,24 @@ module _ (store programme : List ℕ) (rule budget : ℕ) (old : List ℕ) (g : 
       let e : 0 + j ≡ j = omega arith in
       rw (add-one) (one-more w (g .rules) k i programme 0 (g .blocks) (blocks-placed store programme rule budget old g) j _ (rw (← e) at out))
 
+  -- where no block's region has authority over slot i, no block changes it
+  unowned : (i : ℕ) → some (kOf programme) (owned i) ≡ false → (j : ℕ) (b : Block) → IsBlock (w .slots) programme j b
+      → below (w .order) (ownerOf w i) (b .header .region) ≡ false
+  unowned i out j b is = rw (is .header) (is-false _ (λ t. true≢false (sym (some-of _ (owned i) j (is .inside) t) ∙ out)))
+
+  same-output : answer store programme rule budget (length old) .number ≡ 0 → (i : ℕ) → i < w .slots → some (kOf programme) (owned i) ≡ false
+      → part (output store programme rule budget old) (slotWidth * i) slotWidth ≡ slotBytes (getD (g .opening .store) i emptySlot)
+  same-output e i h out =
+      let x =
+      put-out-keeps store programme rule budget old g (Steady w (g .rules) 0 i (getD (g .opening .store) i emptySlot)) refl
+      (λ k j b is. block-steady w (g .rules) k i _ j b (unowned i out j b is)) e in
+      x .2 i h ∙ ap slotBytes (x .1)
+
   integrity : Integrity store programme rule budget old g
   integrity =
       record {
-        held = λ k j i changed. decided (owned i j) refl (λ e. changed (within k j i e));
-        put-out = λ e i h changed. decided _ refl λ out.
-            let x = put-out-keeps store programme rule budget old g (Steady w (g .rules) 0 i (getD (g .opening .store) i emptySlot)) refl
-            (λ k j b is. block-steady w (g .rules) k i _ j b (rw (is .header) (is-false _ (λ t. true≢false (sym (some-of _ (owned i) j (is .inside) t) ∙ out))))) e in
-            changed (x .2 i h ∙ ap slotBytes (x .1));
+        held = λ k j i changed. decided _ refl (λ out. changed (within k j i out));
+        put-out = λ e i h changed. decided _ refl (λ out. changed (same-output e i h out));
       }
     where
       decided : (b : Bool) {c : Bool} → c ≡ b → (c ≡ false → ⊥) → c ≡ true

@@ -29,7 +29,8 @@ module _ (w : Setting) (P : Value → Type 0) (I : Store → Type 0) (C : Label 
   mutual
     unfolding exec execBody execs performed counted Literals LiteralsBody LiteralsAll
 
-    pub exec-keeps : (c : Cmd) → Literals P c → (branch : Label) → C branch → (s : State) → I (s .store) → Post Kept StopKept (exec w c branch s)
+    pub exec-keeps : (c : Cmd) → Literals P c → (branch : Label) → C branch → (s : State) → I (s .store)
+        → Post Kept StopKept (exec w c branch s)
     exec-keeps (cmd at end b) l branch k s m = body-keeps b l at branch k s m
 
     body-keeps : (b : Body) → LiteralsBody P b → (at : ℕ) (branch : Label) → C branch → (s : State) → I (s .store)

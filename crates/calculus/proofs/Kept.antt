@@ -82,7 +82,8 @@ module _ (store programme : List ℕ) (rule budget : ℕ) (old : List ℕ) (g : 
         )
 
     -- where I says that the protected slots are as they were, they are
-    pub protected-kept : (a : Label) → ((s : Store) → I s → StoresAgree w a s (g .opening .store)) → ProtectedKept a store programme rule budget old g
+    pub protected-kept : (a : Label) → ((s : Store) → I s → StoresAgree w a s (g .opening .store))
+        → ProtectedKept a store programme rule budget old g
     protected-kept a agree =
         record {
           held = λ k. agree _ (held-keeps k);

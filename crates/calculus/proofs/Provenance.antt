@@ -75,7 +75,8 @@ module _ (w : Tables) (a : Label) (o : Ordered w) (in-a : Principal w a) (u : St
     block-agrees : (k j : ℕ) (b : Block) → IsBlock (w .slots) p j b → Keeps (λ t. Agree w a t u) w explicitProvenance k j b
     block-agrees k j b is s m = go (withinReach w a p j) refl
       where
-        go : (t : Bool) → withinReach w a p j ≡ t → Ends (λ t. Agree w a t u) (exec (setting w explicitProvenance k b) (b .command) (top (w .order)) s)
+        go : (t : Bool) → withinReach w a p j ≡ t
+            → Ends (λ t. Agree w a t u) (exec (setting w explicitProvenance k b) (b .command) (top (w .order)) s)
         go true e = reach-keeps (setting w explicitProvenance k b) a o in-a (rw (is .header) e) u (b .command) _ s m
         go false e =
             let plain = bare j (is .inside) e in

@@ -86,5 +86,10 @@ pub blocks-refuse : (w : Tables) (rules : RuleSet) (budget i : ℕ) (bs : List B
     → Refuses (λ (h : Halt). Positive (h .stop .number)) (runBlocks w rules budget i bs s)
 blocks-refuse w rules budget i bs s =
     blocks-refuse-by Positive w rules budget
-    (λ b. record { kind = omega arith; region = λ _ _. omega arith; view = λ _ _. omega arith; labels = λ _ _ _ _ _. omega arith; spent = omega arith })
-    i bs s
+    (λ b. record {
+      kind = omega arith;
+      region = λ _ _. omega arith;
+      view = λ _ _. omega arith;
+      labels = λ _ _ _ _ _. omega arith;
+      spent = omega arith;
+    }) i bs s

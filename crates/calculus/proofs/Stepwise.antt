@@ -125,7 +125,8 @@ module _ (w : Setting) (m : ℕ) where
   twin-judged from at g f f′ p =
       twin-step from at _ _ f f′ (λ _ s. counted s) (λ s. rw (eval-same (s .store) g)) (λ _ s. judged) (λ _ s. refl) p
 
-  module _ (g : Expr) (c : Cmd) (body : (from : ℕ) (branch : Label) → Both from (exec w c branch) (exec w′ c branch)) (at : ℕ) (branch : Label) where
+  module _ (g : Expr) (c : Cmd) (body : (from : ℕ) (branch : Label) → Both from (exec w c branch) (exec w′ c branch))
+      (at : ℕ) (branch : Label) where
     while-far : (t : State) → t .steps ≡ m → Still stopped m t (exec w′ (cmd at 0 (while g c)) branch t)
     unfolding step require refusedAs _>>=_ Post
     while-far t e = rw (while-law w′ g c at branch 0 t (omega arith), eq-eqb (t .steps) m e)

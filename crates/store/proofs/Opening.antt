@@ -146,7 +146,8 @@ slots-part store j (suc n) (suc i) h =
     ∙ ap (λ (x : ℕ). slotBytes (getD store x emptySlot)) k
 
 -- slot i's part of the output
-pub slot-part : (store : List Slot) (n i : ℕ) → i < n → part (slotsBytes store 0 n) (slotWidth * i) slotWidth ≡ slotBytes (getD store i emptySlot)
+pub slot-part : (store : List Slot) (n i : ℕ) → i < n
+    → part (slotsBytes store 0 n) (slotWidth * i) slotWidth ≡ slotBytes (getD store i emptySlot)
 slot-part store n i h =
     let k : 0 + i ≡ i = omega arith in
     slots-part store 0 n i h ∙ ap (λ (j : ℕ). slotBytes (getD store j emptySlot)) k
