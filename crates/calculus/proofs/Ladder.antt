@@ -16,7 +16,7 @@ use Rattle.store.specs.Result.{Result, ok, refuse, _>>=_, refusedAs}
 use Rattle.store.specs.Sheet.{Tables}
 use Rattle.store.proofs.Result.{Post}
 use Rattle.programme.specs.Sheet.{Block}
-use Rattle.calculus.specs.Rules.{RuleSet, accessControl, capability, rulesOf, judgesViews, judgesRegion, labelsJudged, allAbove}
+use Rattle.calculus.specs.Rules.{RuleSet, accessControl, capability, explicitProvenance, fullProvenance, rulesOf, judgesViews, judgesRegion, labelsJudged, allAbove}
 use Rattle.calculus.specs.Calculus.{inRegion, authorised, reliable}
 use Rattle.calculus.specs.Blocks.{setting, mostBudget}
 use Rattle.calculus.specs.Run.{Finished, run, answerOf, outputOf}
@@ -55,7 +55,7 @@ fewer-labels rules rules′ p q f t b =
     }
 
 -- from rule 1 to rule 0: a write view that rule 1 admits has its owner in the region, and that is all that rule 0 asks
-views-judged : {budget : ℕ} (t : Tables) (b : Block) → Milder 15 (setting t capability budget b) (setting t accessControl budget b)
+pub views-judged : {budget : ℕ} (t : Tables) (b : Block) → Milder 15 (setting t capability budget b) (setting t accessControl budget b)
 unfolding judgesViews judgesRegion labelsJudged inRegion authorised reliable _and_ _implies_
 views-judged t b =
     record {
@@ -67,18 +67,26 @@ views-judged t b =
     }
 
 -- the same rules under a larger budget
-larger-budget : {rules : RuleSet} {budget budget′ : ℕ} → budget ≤ budget′
+pub larger-budget : {rules : RuleSet} {budget budget′ : ℕ} → budget ≤ budget′
     → (t : Tables) (b : Block) → Milder 17 (setting t rules budget b) (setting t rules budget′ b)
 unfolding inRegion authorised reliable
 larger-budget l t b =
     record { views = λ v. same-test; regions = λ v _ _. same-test; labels = λ i x y branch. same-test; larger = l; spent = λ o. absurd (o refl) }
 
+pub three-to-two : {budget : ℕ} (t : Tables) (b : Block) → Milder 16 (setting t fullProvenance budget b) (setting t explicitProvenance budget b)
+unfolding judgesViews judgesRegion labelsJudged
+three-to-two = fewer-labels _ _ refl refl (λ x y branch. (branch ∷ [], refl))
+
+pub two-to-none : {budget : ℕ} (t : Tables) (b : Block) → Milder 16 (setting t explicitProvenance budget b) (setting t accessControl budget b)
+unfolding judgesViews judgesRegion labelsJudged
+two-to-none = fewer-labels _ _ refl refl (λ x y branch. (x ∷ y ∷ [], refl))
+
 pub descent : Descent
-unfolding run rulesOf refusedAs _>>=_ judgesViews judgesRegion labelsJudged
+unfolding run rulesOf refusedAs _>>=_
 descent =
     record {
-      from-3-to-2 = λ _ _ _ old. ends old (runs-alike refl (fewer-labels _ _ refl refl (λ x y branch. (branch ∷ [], refl))) _ _ _);
-      from-2-to-0 = λ _ _ _ old. ends old (runs-alike refl (fewer-labels _ _ refl refl (λ x y branch. (x ∷ y ∷ [], refl))) _ _ _);
+      from-3-to-2 = λ _ _ _ old. ends old (runs-alike refl three-to-two _ _ _);
+      from-2-to-0 = λ _ _ _ old. ends old (runs-alike refl two-to-none _ _ _);
       from-1-to-0 = λ _ _ _ old. ends old (runs-alike refl views-judged _ _ _);
     }
 

@@ -17,6 +17,7 @@ pub mod RuleNumbers
 pub mod Unless
 pub mod Milder
 pub mod Ladder
+pub mod Further
 pub mod OwnRefusals
 pub mod Kept
 pub mod Stepwise

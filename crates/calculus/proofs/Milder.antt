@@ -35,7 +35,7 @@ pub record Milder (own : ℕ) (w w′ : Setting) : Type 0 where
   pub larger : w .budget ≤ w′ .budget
   pub spent : (17 ≡ own → ⊥) → w′ .budget ≡ w .budget
 
-abbrev under : RuleSet → ℕ → Setting → Setting
+abbrev pub under : RuleSet → ℕ → Setting → Setting
 under rules budget w = record { tables = w .tables; rules = rules; header = w .header; budget = budget }
 
 -- w under the second rules and budget does what w does, unless w refuses by `own`
@@ -61,11 +61,11 @@ module _ (own : ℕ) (rules′ : RuleSet) (budget′ : ℕ) (w : Setting) (m : M
   evals s (literal v) = admits _
   evals s (read e) = unless-then (evals s e) (λ x. unless-require _ same-test (λ _. admits _))
 
-  judges : (s : Store) (g : Expr) → Unless Own (judge w s g) (judge w′ s g)
+  pub judges : (s : Store) (g : Expr) → Unless Own (judge w s g) (judge w′ s g)
   unfolding judge
   judges s g = unless-then (evals s g) (λ x. unless-same)
 
-  assigns : (branch : Label) (s : Store) (t v : Expr) → Unless Own (assignment w branch s t v) (assignment w′ branch s t v)
+  pub assigns : (branch : Label) (s : Store) (t v : Expr) → Unless Own (assignment w branch s t v) (assignment w′ branch s t v)
   unfolding assignment permit
   assigns branch s t v =
       unless-bind _ _ (evals s t) (eval-held w s t) λ x h.
@@ -82,7 +82,7 @@ module _ (own : ℕ) (rules′ : RuleSet) (budget′ : ℕ) (w : Setting) (m : M
         else = λ o. rw (m .spent o);
       }
 
-  steps : {A : Type 0} (at : ℕ) (s : State) {r r′ : Result ℕ A} → Within s → Unless Own r r′
+  pub steps : {A : Type 0} (at : ℕ) (s : State) {r r′ : Result ℕ A} → Within s → Unless Own r r′
       → Unless OwnStop (step w at s r) (step w′ at s r′)
   unfolding step
   steps at s h u = unless-refused-as _ (unless-require _ (unspent (s .steps) (h .kept)) (λ _. u))
@@ -107,7 +107,7 @@ module _ (own : ℕ) (rules′ : RuleSet) (budget′ : ℕ) (w : Setting) (m : M
   mutual
     unfolding exec execBody execs
 
-    exec-alike : (c : Cmd) (branch : Label) (s : State) → Within s → Unless OwnStop (exec w c branch s) (exec w′ c branch s)
+    pub exec-alike : (c : Cmd) (branch : Label) (s : State) → Within s → Unless OwnStop (exec w c branch s) (exec w′ c branch s)
     exec-alike (cmd at end b) branch s h = body-alike b at branch s h
 
     body-alike : (b : Body) (at : ℕ) (branch : Label) (s : State) → Within s
@@ -130,7 +130,7 @@ module _ (own : ℕ) (rules′ : RuleSet) (budget′ : ℕ) (w : Setting) (m : M
 -- runs over the same sheets, with budgets that are both allowed or both not
 module _ {own : ℕ} {rules rules′ : RuleSet} {budget budget′ : ℕ} (allowed : leb budget′ mostBudget ≡ leb budget mostBudget)
     (m : (t : Tables) (b : Block) → Milder own (setting t rules budget b) (setting t rules′ budget′ b)) where
-  blocks-alike : (t : Tables) (i : ℕ) (bs : List Block) (s : State) → Counted budget 0 s
+  pub blocks-alike : (t : Tables) (i : ℕ) (bs : List Block) (s : State) → Counted budget 0 s
       → Unless (λ (h : Halt). h .stop .number ≡ own) (runBlocks t rules budget i bs s) (runBlocks t rules′ budget′ i bs s)
   unfolding runBlocks
   blocks-alike t i [] s h = unless-same

@@ -6,9 +6,9 @@ use native.Mathlib.Omega.{arith}
 use borrow.Author.Tests.{eqb-false, not-true}
 use Rattle.lattice.specs.Order.{Label, meet}
 use Rattle.store.specs.Result.{Result}
-use Rattle.programme.specs.Syntax.{Cmd, cmd, Body, skip, assign, seq, if, while, Cmds, nil, cons}
+use Rattle.programme.specs.Syntax.{Expr, Cmd, cmd, Body, skip, assign, seq, if, while, Cmds, nil, cons}
 use Rattle.store.proofs.Result.{Post, Any, post-ok, post-refuse, post-all, post-map, post-require, post-refused-as, post-bind}
-use Rattle.calculus.specs.Calculus.{Setting, State, Stop, Judged, Write, counted, performed, stopAt, step, choose, loop, exec, execBody, execs}
+use Rattle.calculus.specs.Calculus.{Setting, State, Stop, Judged, Write, counted, performed, stopAt, step, judge, choose, loop, exec, execBody, execs}
 
 module _ {A B : Type 0} where
   pub post-choose : {E : Type 0} (P : B → Type 0) (Q : E → Type 0) (b : Bool) (f g : A → Result E B) (a : A)
@@ -81,6 +81,14 @@ module _ (w : Setting) (from : ℕ) where
       post-map _ _ _ _ _ (post-step w at s (λ _. Unit {0}) r (h .kept) (post-all _ _ _ (λ _. tt) (λ _. tt)))
       (λ a p. p .0) (λ e q. rw q h)
 
+  -- the rounds of a while, with any fuel
+  pub rounds-count : (g : Expr) (at : ℕ) (body : Label → State → Result Stop State)
+      → ((l : Label) (s : State) → Ok s → Post Ok Stopped (body l s))
+      → (n : ℕ) (s : State) → Ok s → Post Ok Stopped (loop (λ t. step w at t (judge w (t .store) g)) body at n s)
+  rounds-count g at body counts n s h =
+      post-loop Ok Stopped (λ t _. t .steps < w .budget) _ _ at (λ t q. q) (λ t q. made at t _ q)
+      (λ t j l q. tick t q l) (λ _ j _ t q. counts (j .label) t q) n s h
+
   mutual
     unfolding exec execBody execs
 
@@ -98,8 +106,7 @@ module _ (w : Setting) (from : ℕ) where
         (λ _. exec-counts c (meet (w .tables .order) branch (j .label)) (counted s) (tick s h q))
         (λ _. exec-counts d (meet (w .tables .order) branch (j .label)) (counted s) (tick s h q))
     body-counts (while g c) at branch s h =
-        post-loop Ok Stopped (λ t _. t .steps < w .budget) _ _ at (λ t q. q) (λ t q. made at t _ q)
-        (λ t j l q. tick t q l) (λ _ j _ t q. exec-counts c (meet (w .tables .order) branch (j .label)) t q) (w .budget - s .steps) s h
+        rounds-count g at _ (λ l t q. exec-counts c (meet (w .tables .order) branch l) t q) (w .budget - s .steps) s h
 
     pub execs-counts : (cs : Cmds) (branch : Label) (s : State) → Ok s → Post Ok Stopped (execs w cs branch s)
     execs-counts nil branch s h = post-ok _ _ _ h

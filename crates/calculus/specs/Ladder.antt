@@ -33,6 +33,20 @@ pub record Descent : Type 0 where
   pub from-2-to-0 : ChangesOnly 16 2 0
   pub from-1-to-0 : ChangesOnly 15 1 0
 
+-- A changed answer is never that of an earlier step: the milder run does no fewer steps.
+abbrev pub GoesAsFar : ℕ → ℕ → Type 0
+GoesAsFar rule rule′ =
+    (store programme : List ℕ) (budget : ℕ) (old : List ℕ)
+    → answer store programme rule budget (length old) .steps ≤ answer store programme rule′ budget (length old) .steps
+
+pub record Further : Type 0 where
+  pub from-3-to-2 : GoesAsFar 3 2
+  pub from-2-to-0 : GoesAsFar 2 0
+  pub from-1-to-0 : GoesAsFar 1 0
+  pub larger-budget : (store programme : List ℕ) (rule budget budget′ : ℕ) (old : List ℕ)
+      → budget ≤ budget′ → budget′ ≤ mostBudget
+      → answer store programme rule budget (length old) .steps ≤ answer store programme rule budget′ (length old) .steps
+
 -- What cannot happen: a run with good sheets and arguments is not refused by n under the rule number.
 abbrev pub NeverBy : ℕ → ℕ → Type 0
 NeverBy n rule =
