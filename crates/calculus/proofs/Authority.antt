@@ -6,13 +6,12 @@ use Rattle.lattice.specs.Tests.{_and_, _implies_}
 use Rattle.lattice.specs.Order.{Label}
 use Rattle.lattice.proofs.Tests.{imp-at}
 use Rattle.store.specs.Held.{Ordered}
-use Rattle.store.proofs.Result.{Post, Any, post-ok, post-all, post-map, post-require, post-bind}
+use Rattle.store.proofs.Result.{Post, Any, post-ok, post-map, post-require, post-bind}
 use Rattle.programme.specs.Syntax.{Expr, literal, read, Cmd}
-use Rattle.programme.proofs.Literals.{literals-all}
 use Rattle.calculus.specs.Rules.{RuleSet, accessControl, capability, explicitProvenance, fullProvenance, judgesViews, judgesRegion}
-use Rattle.calculus.specs.Calculus.{Setting, Store, State, Stop, inRegion, mayHold, admit, fetch, eval, authorised, permit, assignment, exec}
+use Rattle.calculus.specs.Calculus.{Setting, Store, State, inRegion, mayHold, admit, fetch, eval, authorised, permit, assignment, exec}
 use Rattle.calculus.proofs.Taint.{Tainted, Principal, Agree, agree-tainted, tainted-down}
-use Rattle.calculus.proofs.Invariant.{exec-keeps}
+use Rattle.calculus.proofs.Invariant.{Ends, all-ends}
 
 -- every rule set judges the region: at the assignment by 14, or at each write view by 15
 judged : (rules : RuleSet) (view region : Bool) → view ≡ true
@@ -46,11 +45,9 @@ module _ (w : Setting) where
 module _ (w : Setting) (a : Label) (o : Ordered (w .tables)) (in-a : Principal (w .tables) a)
     (l : Tainted (w .tables) a (w .header .region)) (u : Store) where
   pub reach-keeps : (c : Cmd) (branch : Label) (s : State) → Agree (w .tables) a (s .store) u
-      → Post (λ (t : State). Agree (w .tables) a (t .store) u) (λ (e : Stop). Agree (w .tables) a (e .state .store) u) (exec w c branch s)
+      → Ends (λ t. Agree (w .tables) a t u) (exec w c branch s)
   unfolding inRegion
-  reach-keeps c branch s m =
-      exec-keeps w (λ _. Unit {0}) (λ t. Agree (w .tables) a t u) (λ _. Unit {0})
-      (λ _ s g _. post-all _ _ _ (λ _. tt) (λ _. tt))
-      (λ branch s t v _ _ _ m. post-map _ _ _ _ _ (assigned-in-region w branch s t v)
+  reach-keeps =
+      all-ends w (λ t. Agree (w .tables) a t u)
+      (λ branch s t v m. post-map _ _ _ _ _ (assigned-in-region w branch s t v)
       (λ x p. agree-tainted (w .tables) a x s u (tainted-down (w .tables) a o in-a _ _ p l) m) (λ _ _. tt))
-      c (literals-all _ (λ _. tt) c) branch tt s m

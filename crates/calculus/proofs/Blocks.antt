@@ -6,9 +6,16 @@ use Rattle.store.specs.Sheet.{Tables}
 use Rattle.programme.specs.Sheet.{Block}
 use Rattle.store.proofs.Result.{Post, post-ok, post-refused-as, post-bind}
 use Rattle.calculus.specs.Rules.{RuleSet}
-use Rattle.calculus.specs.Calculus.{State}
+use Rattle.calculus.specs.Calculus.{State, Stop}
 use Rattle.calculus.specs.Blocks.{Halt, setting, runBlocks}
 use Rattle.calculus.proofs.Steps.{Counted, exec-counts}
+
+-- where a block is stopped, and where a run is
+abbrev pub stopped : Stop → State
+stopped e = e .state
+
+abbrev pub halted : Halt → State
+halted h = h .stop .state
 
 -- steps only grow and never pass the budget, in a run that finishes and in one that is stopped
 pub run-counts : (w : Tables) (rules : RuleSet) (budget i from : ℕ) (bs : List Block) (s : State) → Counted budget from s

@@ -1,19 +1,20 @@
 -- Under capability, where no write view of a protected slot is at hand, none comes up. Assumes nothing.
 use Prim.Native.Nat.{ℕ, _≤_, _<_}
 use mathlib.Core.Path.{_≡_, refl}
-use mathlib.Core.Bool.{Bool, true, false, false≢true}
+use mathlib.Core.Bool.{true, false, false≢true}
 use mathlib.Core.List.{List}
 use native.Mathlib.Decide.{decLt}
 use native.Mathlib.Omega.{arith}
 use borrow.Author.Tests.{ltb-true, eqb-true}
+use borrow.Table.Steps.{cases}
 use Rattle.lattice.specs.Tests.{_and_, _or_}
-use Rattle.lattice.specs.Order.{Label, below, top}
+use Rattle.lattice.specs.Order.{Label, below}
 use Rattle.lattice.proofs.Tests.{imp-at}
 use Rattle.store.specs.declared.Value.{Value}
 use Rattle.store.specs.Value.{writeView, isWriteView, viewed, wellFormed, opened, emptySlot}
 use Rattle.store.specs.Sheet.{Tables, Opening, ownerOf}
 use Rattle.store.specs.Held.{Ordered}
-use Rattle.store.proofs.Result.{Post, Any, post-ok, post-all, post-at, post-map, post-require, post-bind}
+use Rattle.store.proofs.Result.{Post, Any, post-ok, post-at, post-map, post-require, post-bind}
 use Rattle.store.proofs.Opening.{Opens, store-opens}
 use Rattle.programme.specs.Syntax.{Expr, Cmd, LiteralOf, Literals}
 use Rattle.programme.specs.Sheet.{Block}
@@ -27,9 +28,9 @@ use Rattle.calculus.specs.Isolation.{withinReach}
 use Rattle.calculus.specs.Kept.{Spares, BlocksSpare, CapabilitySafety}
 use Rattle.calculus.proofs.Rules.{rules-one}
 use Rattle.calculus.proofs.Taint.{Tainted, Principal, Agree, agree-refl, agree-tainted, tainted-down}
-use Rattle.calculus.proofs.Invariant.{exec-keeps, Slots, written-slots, eval-gives}
+use Rattle.calculus.proofs.Invariant.{Ends, exec-ends, Slots, written-slots, eval-gives}
 use Rattle.calculus.proofs.Authority.{eval-held}
-use Rattle.calculus.proofs.Kept.{Ends, Keeps, keeps-under, protected-kept}
+use Rattle.calculus.proofs.Kept.{Keeps, keeps-under, protected-kept}
 
 -- a write view of a slot that the adversary may write, or no write view
 abbrev pub Low : Tables → Label → Value → Type 0
@@ -42,11 +43,8 @@ module _ (w : Tables) (a : Label) where
   view-inside v f e = ltb-true _ _ (rw (eqb-true (v .kind) writeView e) at f)
 
   pub spares-low : (v : Value) → wellFormed (w .slots) v ≡ true → Spares w a v → Low w a v
-  spares-low v f spares e = go (below (w .order) (ownerOf w (viewed v)) a) refl
-    where
-      go : (b : Bool) → below (w .order) (ownerOf w (viewed v)) a ≡ b → Tainted w a (ownerOf w (viewed v))
-      go true p = p
-      go false p = absurd (spares e (record { inside = view-inside v f e; above = p }))
+  spares-low v f spares e =
+      cases (below (w .order) (ownerOf w (viewed v)) a) (λ p. p) (λ p. absurd (spares e (record { inside = view-inside v f e; above = p })))
 
 -- protected slots are as in u, and no slot holds a write view of one
 pub record Safe (w : Tables) (a : Label) (u s : Store) : Type 0 where
@@ -71,11 +69,9 @@ module _ (w : Setting) (a : Label) (u : Store) (P : Value → Type 0)
 
   safe-keeps : (c : Cmd) → Literals P c → (branch : Label) (s : State) → Safe (w .tables) a u (s .store)
       → Ends (Safe (w .tables) a u) (exec w c branch s)
-  safe-keeps c l branch s m =
-      exec-keeps w P (Safe (w .tables) a u) (λ _. Unit {0}) (λ _ s g _. post-all _ _ _ (λ _. tt) (λ _. tt))
-      (λ branch s t v _ l k m. assigns branch s t v l k m) c l branch tt s m
+  safe-keeps = exec-ends w (Safe (w .tables) a u) P assigns
 
-module _ (w : Tables) (a : Label) (o : Ordered w) (in-a : Principal w a) (u : Store) (k : ℕ) (b : Block) where
+module _ (w : Tables) (a : Label) (o : Ordered w) (in-a : Principal w a) (k : ℕ) (b : Block) where
   -- within reach, the region has no authority over a protected slot
   gives-within : Tainted w a (b .header .region) → (s : Store) (e : Expr)
       → Post (λ x. Low w a (x .value)) Any (eval (setting w capability k b) s e)
@@ -92,17 +88,14 @@ low-literals w a p j b is spare =
 
 module _ (w : Tables) (a : Label) (o : Ordered w) (in-a : Principal w a) (u : Store) (p : List ℕ) (spare : BlocksSpare w a p) where
   block-safe : (k j : ℕ) (b : Block) → IsBlock (w .slots) p j b → Keeps (Safe w a u) w capability k j b
-  block-safe k j b is s m = go (withinReach w a p j) refl
-    where
-      go : (t : Bool) → withinReach w a p j ≡ t → Ends (Safe w a u) (exec (setting w capability k b) (b .command) (top (w .order)) s)
-      go true e =
-          safe-keeps (setting w capability k b) a u (λ _. Unit {0})
-          (λ s x _ _. gives-within w a o in-a u k b (rw (is .header) e) s x) (b .command) (literals-all _ (λ _. tt) (b .command)) _ s m
+  block-safe k j b is s m =
+      cases (withinReach w a p j)
+      (λ e. safe-keeps (setting w capability k b) a u (λ _. Unit {0})
+      (λ s x _ _. gives-within w a o in-a k b (rw (is .header) e) s x) (b .command) (literals-all _ (λ _. tt) (b .command)) _ s m)
       -- outside, neither a literal nor a slot gives one
-      go false e =
-          safe-keeps (setting w capability k b) a u (Low w a)
-          (λ s x l m. eval-gives (Low w a) (setting w capability k b) s x l (m .low)) (b .command)
-          (low-literals w a p j b is (spare j (is .inside) e (b .command) (is .code))) _ s m
+      (λ e. safe-keeps (setting w capability k b) a u (Low w a)
+      (λ s x l m. eval-gives (Low w a) (setting w capability k b) s x l (m .low)) (b .command)
+      (low-literals w a p j b is (spare j (is .inside) e (b .command) (is .code))) _ s m)
 
 -- an opening store
 module _ (store : List ℕ) (o : Opening) (opens : Opens store o) (a : Label) where

@@ -1,10 +1,11 @@
 -- Theorem 5 of source 003 holds under rule 2. Assumes nothing.
 use Prim.Native.Nat.{ℕ, _*_, _<_}
-use mathlib.Core.Path.{_≡_, refl, sym, ap, _∙_}
-use mathlib.Core.Logic.{_⊎_, inl, inr}
-use mathlib.Core.Bool.{Bool, true, false, true≢false}
+use mathlib.Core.Path.{_≡_, sym, ap, _∙_}
+use mathlib.Core.Logic.{inl, inr}
+use mathlib.Core.Bool.{true, false, true≢false}
 use mathlib.Core.List.{List}
 use lib.ListN.{getD, length}
+use borrow.Table.Steps.{cases}
 use Rattle.lattice.specs.Order.{Label, below}
 use Rattle.store.specs.Result.{ok}
 use Rattle.store.specs.Bytes.{part}
@@ -20,7 +21,7 @@ use Rattle.calculus.specs.Blocks.{setting}
 use Rattle.calculus.specs.Run.{FinishedRun}
 use Rattle.calculus.specs.Faithful.{Good}
 use Rattle.calculus.specs.Isolation.{Protected, withinReach, Replaced, unchanged, exchanged, Replacement}
-use Rattle.calculus.specs.Deputy.{ProtectedSpare, BareBlocksSpare, NoneEndorsedOutside, NoControl, DirectWrite, DeputySafety}
+use Rattle.calculus.specs.Deputy.{ProtectedSpare, BareBlocksSpare, NoneEndorsedOutside, DeputySafety}
 use Rattle.calculus.proofs.Invariant.{Slots, slots-keep}
 use Rattle.calculus.proofs.Good.{good-run}
 use Rattle.calculus.proofs.Kept.{put-out-keeps}
@@ -91,16 +92,13 @@ module _ (store : List ℕ) (w : Tables) (s : Store) (sheet : storeSheet store �
         ∙ provenance-safety a store q (x .budget) (x .old) good in-a slots spare bare .put-out (x .finishes) i p
 
 pub deputy-safety : DeputySafety
-deputy-safety a store p w s in-a sheet slots spare bare q out r x i h = go (below (w .order) (ownerOf w i) a) refl
+deputy-safety a store p w s in-a sheet slots spare bare q out r x i h =
+    cases (below (w .order) (ownerOf w i) a)
+    (λ own. let y = put store w s sheet q out x i h in
+    inr (direct-write store w s sheet a in-a i h own (y .value) (y .formed) out (y .bytes)))
+    (λ above. let protected : Protected w a i = record { inside = h; above = above } in
+    inl (λ q′ out′ r′ x′. ends q out r x protected ∙ sym (ends q′ out′ r′ x′ protected)))
   where
     ends : (q out : List ℕ) → Replacement w a p q → FinishedRun 2 store q out → Protected w a i
         → part out (slotWidth * i) slotWidth ≡ slotBytes (getD s i emptySlot)
     ends q out r x = kept store w s sheet q out x a in-a slots (spare-left w a p q r spare) (bare-left w a p q r bare) i
-
-    go : (b : Bool) → below (w .order) (ownerOf w i) a ≡ b → NoControl 2 w a store p i out ⊎ DirectWrite 2 w a store i out
-    go true own =
-        let y = put store w s sheet q out x i h in
-        inr (direct-write store w s sheet a in-a i h own (y .value) (y .formed) out (y .bytes))
-    go false above =
-        let prot : Protected w a i = record { inside = h; above = above } in
-        inl (λ q′ out′ r′ x′. ends q out r x prot ∙ sym (ends q′ out′ r′ x′ prot))

@@ -7,16 +7,16 @@ use native.Mathlib.Numerals.{add-one}
 use native.Mathlib.Omega.{arith}
 use lib.ListN.{getD, length, take}
 use lib.Seq.{getD-set-other}
+use borrow.Table.Steps.{cases}
 use Rattle.lattice.specs.Tests.{some}
 use Rattle.lattice.specs.Order.{below, top}
 use Rattle.lattice.proofs.Tests.{is-false, some-of}
-use Rattle.store.specs.Result.{Result, ok, refuse, _>>=_, refusedAs}
+use Rattle.store.specs.Result.{Result, refusedAs}
 use Rattle.store.specs.Bytes.{part}
 use Rattle.store.specs.Value.{Slot, emptySlot, slotWidth, slotBytes}
 use Rattle.store.specs.Sheet.{Tables, ownerOf}
-use Rattle.store.proofs.Result.{post-all, post-map}
+use Rattle.store.proofs.Result.{Any, post-all, post-map, bind-with}
 use Rattle.programme.specs.Sheet.{Block, kOf, headerAt}
-use Rattle.programme.proofs.Literals.{literals-all}
 use Rattle.programme.proofs.Placed.{IsBlock, Placed, none, more}
 use Rattle.calculus.specs.Rules.{RuleSet}
 use Rattle.calculus.specs.Calculus.{Store, State, inRegion, written, exec}
@@ -24,7 +24,7 @@ use Rattle.calculus.specs.Blocks.{Halt, haltIn, setting, runBlocks}
 use Rattle.calculus.specs.Run.{answer, output}
 use Rattle.calculus.specs.Faithful.{Good}
 use Rattle.calculus.specs.Kept.{reached, stateWithin, Integrity, WriteIntegrity}
-use Rattle.calculus.proofs.Invariant.{exec-keeps}
+use Rattle.calculus.proofs.Invariant.{all-ends}
 use Rattle.calculus.proofs.Authority.{assigned-in-region}
 use Rattle.calculus.proofs.Kept.{Keeps, at-reached, blocks-keep, blocks-placed, put-out-keeps}
 
@@ -36,25 +36,20 @@ module _ (w : Tables) (rules : RuleSet) (k i : ℕ) where
   block-steady : (d : Slot) (j : ℕ) (b : Block) → below (w .order) (ownerOf w i) (b .header .region) ≡ false → Keeps (Steady d) w rules k j b
   unfolding written inRegion
   block-steady d j b out s m =
-      exec-keeps (setting w rules k b) (λ _. Unit {0}) (Steady d) (λ _. Unit {0}) (λ _ s g _. post-all _ _ _ (λ _. tt) (λ _. tt))
-      (λ branch s t v _ _ _ m. post-map _ _ _ _ _ (assigned-in-region (setting w rules k b) branch s t v)
+      all-ends (setting w rules k b) (Steady d)
+      (λ branch s t v m. post-map _ _ _ _ _ (assigned-in-region (setting w rules k b) branch s t v)
       (λ x p. getD-set-other s (x .slot) i _ emptySlot (λ e. true≢false (sym (rw (← e) at p) ∙ out)) ∙ m) (λ _ _. tt))
-      (b .command) (literals-all _ (λ _. tt) (b .command)) _ tt s m
+      (b .command) _ s m
 
-  -- two runs that begin alike
-  same-start : (r : Result Halt State) (f f′ : State → Result Halt State)
-      → ((t : State) → Steady (getD (reached (f′ t) .store) i emptySlot) (reached (f t) .store))
-      → Steady (getD (reached (r >>= f′) .store) i emptySlot) (reached (r >>= f) .store)
-  unfolding reached _>>=_
-  same-start (ok t) f f′ h = h t
-  same-start (refuse e) f f′ h = refl
+  -- slot i is the same where two runs end or are stopped
+  abbrev SlotSame : Result Halt State → Result Halt State → Type 0
+  SlotSame r r′ = Steady (getD (reached r′ .store) i emptySlot) (reached r .store)
 
   -- slot i after the first j blocks and after one more
   module _ (p : List ℕ) where
     one-more : (n : ℕ) (bs : List Block) → Placed (IsBlock (w .slots) p) n bs → (j : ℕ) (s : State)
         → below (w .order) (ownerOf w i) (headerAt p (n + j) .region) ≡ false
-        → Steady (getD (reached (runBlocks w rules k n (take j bs) s) .store) i emptySlot)
-        (reached (runBlocks w rules k n (take (suc j) bs) s) .store)
+        → SlotSame (runBlocks w rules k n (take (suc j) bs) s) (runBlocks w rules k n (take j bs) s)
     unfolding reached runBlocks
     one-more n [] none zero s out = refl
     one-more n [] none (suc j) s out = refl
@@ -64,8 +59,8 @@ module _ (w : Tables) (rules : RuleSet) (k i : ℕ) where
         (blocks-keep (Steady _) w rules k n (b ∷ []) (more (block-steady _ n b (rw (is .header) (rw e at out))) none) s refl)
     one-more n (b ∷ bs) (more is rest) (suc j) s out =
         let e : n + suc j ≡ n + 1 + j = omega arith in
-        same-start (refusedAs (haltIn n) (exec (setting w rules k b) (b .command) (top (w .order)) s))
-        (runBlocks w rules k (n + 1) (take (suc j) bs)) (runBlocks w rules k (n + 1) (take j bs)) (λ t. one-more (n + 1) bs rest j t (rw e at out))
+        bind-with SlotSame Any Any (refusedAs (haltIn n) (exec (setting w rules k b) (b .command) (top (w .order)) s)) _ _
+        (post-all _ _ _ (λ _. tt) (λ _. tt)) (λ t _. one-more (n + 1) bs rest j t (rw e at out)) (λ _. refl)
 
 module _ (store programme : List ℕ) (rule budget : ℕ) (old : List ℕ) (g : Good store programme rule budget (length old)) where
   abbrev w : Tables
@@ -97,13 +92,9 @@ module _ (store programme : List ℕ) (rule budget : ℕ) (old : List ℕ) (g : 
   integrity : Integrity store programme rule budget old g
   integrity =
       record {
-        held = λ k j i changed. decided _ refl (λ out. changed (within k j i out));
-        put-out = λ e i h changed. decided _ refl (λ out. changed (same-output e i h out));
+        held = λ k j i changed. cases (owned i j) (λ e. e) (λ out. absurd (changed (within k j i out)));
+        put-out = λ e i h changed. cases (some (kOf programme) (owned i)) (λ e. e) (λ out. absurd (changed (same-output e i h out)));
       }
-    where
-      decided : (b : Bool) {c : Bool} → c ≡ b → (c ≡ false → ⊥) → c ≡ true
-      decided true e f = e
-      decided false e f = absurd (f e)
 
 pub write-integrity : WriteIntegrity
 write-integrity = integrity

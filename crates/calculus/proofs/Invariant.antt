@@ -3,12 +3,18 @@ use Prim.Native.Nat.{ℕ, zero, suc, _-_}
 use mathlib.Core.List.{List, [], _∷_}
 use lib.ListN.{getD, set}
 use Rattle.lattice.specs.Order.{Label, meet}
+use Rattle.store.specs.Result.{Result}
 use Rattle.store.specs.declared.Value.{Value}
 use Rattle.store.specs.Value.{Slot, assigned, emptySlot}
 use Rattle.store.proofs.Result.{Post, Any, post-ok, post-all, post-map, post-require, post-bind}
 use Rattle.programme.specs.Syntax.{Expr, literal, read, Cmd, cmd, Body, skip, assign, seq, if, while, Cmds, nil, cons, LiteralOf, Literals, LiteralsBody, LiteralsAll}
+use Rattle.programme.proofs.Literals.{literals-all}
 use Rattle.calculus.specs.Calculus.{Setting, Store, Write, State, Stop, contents, admit, fetch, eval, judge, permit, assignment, counted, written, performed, step, exec, execBody, execs}
 use Rattle.calculus.proofs.Steps.{post-choose, post-tried, post-loop}
+
+-- I holds of the store where a command ends, or is stopped
+abbrev pub Ends : (Store → Type 0) → Result Stop State → Type 0
+Ends I r = Post (λ s. I (s .store)) (λ e. I (e .state .store)) r
 
 -- I is kept by every assignment whose literals satisfy P, under every branch label that satisfies C; and inside an if or a while the
 -- branch label satisfies C again
@@ -16,25 +22,19 @@ module _ (w : Setting) (P : Value → Type 0) (I : Store → Type 0) (C : Label 
     (inside : (branch : Label) (s : Store) (g : Expr) → C branch → Post (λ j. C (meet (w .tables .order) branch (j .label))) Any (judge w s g))
     (keeps : (branch : Label) (s : Store) (t v : Expr) → C branch → LiteralOf P t → LiteralOf P v → I s
     → Post (λ x. I (written x s)) Any (assignment w branch s t v)) where
-  abbrev pub Kept : State → Type 0
-  Kept s = I (s .store)
-
-  abbrev pub StopKept : Stop → Type 0
-  StopKept e = I (e .state .store)
-
   guarded : (at : ℕ) (branch : Label) (s : State) (g : Expr) → C branch → I (s .store)
-      → Post (λ j. C (meet (w .tables .order) branch (j .label))) StopKept (step w at s (judge w (s .store) g))
+      → Post (λ j. C (meet (w .tables .order) branch (j .label))) (λ e. I (e .state .store)) (step w at s (judge w (s .store) g))
   guarded at branch s g k m = post-tried w at s _ _ _ (post-map _ _ _ _ _ (inside branch (s .store) g k) (λ j c. c) (λ _ _. m)) m
 
   mutual
     unfolding exec execBody execs performed counted Literals LiteralsBody LiteralsAll
 
     pub exec-keeps : (c : Cmd) → Literals P c → (branch : Label) → C branch → (s : State) → I (s .store)
-        → Post Kept StopKept (exec w c branch s)
+        → Ends I (exec w c branch s)
     exec-keeps (cmd at end b) l branch k s m = body-keeps b l at branch k s m
 
     body-keeps : (b : Body) → LiteralsBody P b → (at : ℕ) (branch : Label) → C branch → (s : State) → I (s .store)
-        → Post Kept StopKept (execBody w b at branch s)
+        → Ends I (execBody w b at branch s)
     body-keeps skip l at branch k s m = post-ok _ _ _ m
     body-keeps (assign t v) l at branch k s m =
         post-bind (λ x. I (written x (s .store))) _ _ _ _
@@ -45,13 +45,29 @@ module _ (w : Setting) (P : Value → Type 0) (I : Store → Type 0) (C : Label 
         post-bind _ _ _ _ _ (guarded at branch s g k m) λ j q.
         post-choose _ _ _ _ _ _ (λ _. exec-keeps c (l .1) _ q (counted s) m) (λ _. exec-keeps d (l .2) _ q (counted s) m)
     body-keeps (while g c) l at branch k s m =
-        post-loop Kept StopKept (λ _ j. C (meet (w .tables .order) branch (j .label))) _ _ at (λ _ q. q)
+        post-loop (λ t. I (t .store)) (λ e. I (e .state .store)) (λ _ j. C (meet (w .tables .order) branch (j .label))) _ _ at (λ _ q. q)
         (λ t q. guarded at branch t g k q) (λ t j _ q. q) (λ _ j q t m. exec-keeps c (l .1) _ q t m) (w .budget - s .steps) s m
 
     execs-keep : (cs : Cmds) → LiteralsAll P cs → (branch : Label) → C branch → (s : State) → I (s .store)
-        → Post Kept StopKept (execs w cs branch s)
+        → Ends I (execs w cs branch s)
     execs-keep nil l branch k s m = post-ok _ _ _ m
     execs-keep (cons c cs) l branch k s m = post-bind _ _ _ _ _ (exec-keeps c (l .0) branch k s m) (λ t q. execs-keep cs (l .1) branch k t q)
+
+-- where the branch label does not matter
+module _ (w : Setting) (I : Store → Type 0) where
+  pub exec-ends : (P : Value → Type 0)
+      → ((branch : Label) (s : Store) (t v : Expr) → LiteralOf P t → LiteralOf P v → I s
+      → Post (λ x. I (written x s)) Any (assignment w branch s t v))
+      → (c : Cmd) → Literals P c → (branch : Label) (s : State) → I (s .store) → Ends I (exec w c branch s)
+  exec-ends P keeps c l branch s m =
+      exec-keeps w P I (λ _. Unit {0}) (λ _ s g _. post-all _ _ _ (λ _. tt) (λ _. tt))
+      (λ branch s t v _ p q m. keeps branch s t v p q m) c l branch tt s m
+
+  -- nor the literals
+  pub all-ends : ((branch : Label) (s : Store) (t v : Expr) → I s → Post (λ x. I (written x s)) Any (assignment w branch s t v))
+      → (c : Cmd) (branch : Label) (s : State) → I (s .store) → Ends I (exec w c branch s)
+  all-ends keeps c branch s m =
+      exec-ends (λ _. Unit {0}) (λ branch s t v _ _ m. keeps branch s t v m) c (literals-all _ (λ _. tt) c) branch s m
 
 -- what holds of both holds of an entry after a set
 set-either : {A : Type 0} (Q : A → Type 0) (s : List A) (i j : ℕ) (u d : A) → Q u → Q (getD s j d) → Q (getD (set s i u) j d)
@@ -89,9 +105,7 @@ module _ (F : Value → Type 0) where
         post-require _ _ _ _ _ (λ _. post-require _ _ _ _ _ (λ _. post-ok _ _ _ p) (λ _. tt)) (λ _. tt)) (λ _. tt)
 
     -- .. and of every slot's value, as long as the run goes
-    pub slots-keep : (c : Cmd) → Literals F c → (branch : Label) (s : State) → Slots (s .store)
-        → Post (λ (t : State). Slots (t .store)) (λ (e : Stop). Slots (e .state .store)) (exec w c branch s)
-    slots-keep c l branch s m =
-        exec-keeps w F Slots (λ _. Unit {0}) (λ _ s g _. post-all _ _ _ (λ _. tt) (λ _. tt))
-        (λ branch s t v _ _ l m. post-map _ _ _ _ _ (assignment-gives branch s t v l m) (λ x p. written-slots x s p m) (λ _ _. tt))
-        c l branch tt s m
+    pub slots-keep : (c : Cmd) → Literals F c → (branch : Label) (s : State) → Slots (s .store) → Ends Slots (exec w c branch s)
+    slots-keep =
+        exec-ends w Slots F
+        (λ branch s t v _ l m. post-map _ _ _ _ _ (assignment-gives branch s t v l m) (λ x p. written-slots x s p m) (λ _ _. tt))

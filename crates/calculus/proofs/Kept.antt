@@ -14,12 +14,13 @@ use Rattle.store.proofs.Opening.{slot-part}
 use Rattle.programme.specs.Sheet.{Block}
 use Rattle.programme.proofs.Placed.{IsBlock, Placed, none, more, placed-map, programme-placed}
 use Rattle.calculus.specs.Rules.{RuleSet}
-use Rattle.calculus.specs.Calculus.{Store, State, Stop, exec}
+use Rattle.calculus.specs.Calculus.{Store, State, exec}
 use Rattle.calculus.specs.Blocks.{Halt, setting, runBlocks, start}
 use Rattle.calculus.specs.Run.{answer, output}
 use Rattle.calculus.specs.Faithful.{Good}
 use Rattle.calculus.specs.Isolation.{StoresAgree}
 use Rattle.calculus.specs.Kept.{reached, stateWithin, storeAfter, ProtectedKept}
+use Rattle.calculus.proofs.Invariant.{Ends}
 use Rattle.calculus.proofs.Faithful.{faithfulness}
 
 -- what holds where a run ends or is stopped
@@ -29,17 +30,13 @@ at-reached P (ok s) p = p
 at-reached P (refuse h) p = p
 
 module _ (I : Store → Type 0) where
-  -- I holds where a block ends or is stopped ..
-  abbrev pub Ends : Result Stop State → Type 0
-  Ends r = Post (λ s. I (s .store)) (λ e. I (e .state .store)) r
-
-  -- .. and where a run does
+  -- I holds where a run ends or is stopped
   abbrev pub RunEnds : Result Halt State → Type 0
   RunEnds r = Post (λ s. I (s .store)) (λ h. I (h .stop .state .store)) r
 
   -- a block that keeps I from any state on
   abbrev pub Keeps : Tables → RuleSet → ℕ → ℕ → Block → Type 0
-  Keeps w rules k j b = (s : State) → I (s .store) → Ends (exec (setting w rules k b) (b .command) (top (w .order)) s)
+  Keeps w rules k j b = (s : State) → I (s .store) → Ends I (exec (setting w rules k b) (b .command) (top (w .order)) s)
 
   pub keeps-under : (w : Tables) (rules rules′ : RuleSet) (k j : ℕ) (b : Block) → rules ≡ rules′ → Keeps w rules′ k j b → Keeps w rules k j b
   keeps-under w rules rules′ k j b e h = rw e h

@@ -2,27 +2,80 @@
 use Prim.Native.Nat.{ℕ, _≤_}
 use mathlib.Core.Path.{_≡_, refl}
 use mathlib.Core.Logic.{⊎-elim}
-use mathlib.Core.Bool.{true}
+use mathlib.Core.Bool.{Bool, true, false}
 use mathlib.Core.List.{List, [], _∷_, _++_}
 use native.Mathlib.Omega.{arith}
 use lib.ListN.{length}
+use lib.Dec.{leb}
 use borrow.Author.Tests.{le-leb}
 use Rattle.lattice.specs.Tests.{_and_, _implies_}
 use Rattle.lattice.specs.declared.Table.{Table}
 use Rattle.lattice.specs.Order.{Label}
 use Rattle.lattice.proofs.Tests.{and-l, and-r, and-of, imp-at, or-at, or-l, or-r}
 use Rattle.store.specs.declared.Answer.{Answer}
-use Rattle.store.specs.Result.{Result, ok, refuse, _>>=_, refusedAs}
+use Rattle.store.specs.Result.{Result, ok, refuse, _>>=_, require, refusedAs}
 use Rattle.store.specs.Sheet.{Tables}
-use Rattle.store.proofs.Result.{Post}
+use Rattle.store.proofs.Result.{Post, Any, post-all, bind-with}
 use Rattle.programme.specs.Sheet.{Block}
 use Rattle.calculus.specs.Rules.{RuleSet, accessControl, capability, explicitProvenance, fullProvenance, rulesOf, judgesViews, judgesRegion, labelsJudged, allAbove}
-use Rattle.calculus.specs.Calculus.{inRegion, authorised, reliable}
-use Rattle.calculus.specs.Blocks.{setting, mostBudget}
-use Rattle.calculus.specs.Run.{Finished, run, answerOf, outputOf}
-use Rattle.calculus.specs.Ladder.{Descent, Ladder, Budgets}
-use Rattle.calculus.proofs.Milder.{Milder, runs-alike}
-use Rattle.calculus.proofs.Unless.{Unless, same-test, unless-same, unless-then}
+use Rattle.calculus.specs.Calculus.{Store, State, inRegion, authorised, reliable}
+use Rattle.calculus.specs.Blocks.{Halt, haltAnswer, setting, runBlocks, mostBudget, start}
+use Rattle.calculus.specs.Run.{Finished, runProgramme, runOpened, runUnder, run, answerOf, outputOf}
+use Rattle.calculus.specs.Ladder.{Descent, Ladder, Budgets, Further}
+use Rattle.calculus.proofs.Blocks.{halted}
+use Rattle.calculus.proofs.Unless.{Unless, same-test, unless-same, unless-require, unless-then, unless-refused-as}
+use Rattle.calculus.proofs.Eased.{Eased}
+use Rattle.calculus.proofs.Milder.{Milder, blocks-eased}
+
+-- the second run's answer has no fewer steps
+abbrev AsFar : Result Answer Finished → Result Answer Finished → Type 0
+AsFar r r′ = answerOf r .steps ≤ answerOf r′ .steps
+
+require-far : (b : Bool) (e : Answer) (r r′ : Result Answer Finished) → AsFar r r′ → AsFar (require b e r) (require b e r′)
+unfolding require
+require-far true e r r′ h = h
+require-far false e r r′ h = omega arith
+
+bind-far : {A : Type 0} (r : Result Answer A) (k k′ : A → Result Answer Finished) → ((a : A) → AsFar (k a) (k′ a)) → AsFar (r >>= k) (r >>= k′)
+bind-far r k k′ h = bind-with AsFar Any Any r k k′ (post-all _ _ _ (λ _. tt) (λ _. tt)) (λ a _. h a) (λ e. omega arith)
+
+answers-far : (Q : Halt → Type 0) (budget blocks slots : ℕ) (r r′ : Result Halt State) → Eased Q halted budget r r′
+    → AsFar (refusedAs haltAnswer r >>= λ s. ok (record { blocks = blocks; slots = slots; state = s }))
+    (refusedAs haltAnswer r′ >>= λ s. ok (record { blocks = blocks; slots = slots; state = s }))
+unfolding Post refusedAs _>>=_ answerOf haltAnswer
+answers-far Q budget blocks slots (ok s) r′ u = rw (u .alike .else tt) (omega arith)
+answers-far Q budget blocks slots (refuse h) (ok t) u = u .further .grown
+answers-far Q budget blocks slots (refuse h) (refuse h′) u = u .further .grown
+
+-- runs over the same sheets, with budgets that are both allowed or both not
+module _ {own : ℕ} {rules rules′ : RuleSet} {budget budget′ : ℕ} (allowed : leb budget′ mostBudget ≡ leb budget mostBudget)
+    (m : (t : Tables) (b : Block) → Milder own (setting t rules budget b) (setting t rules′ budget′ b)) where
+  played : (t : Tables) (blocks : List Block) (s : Store)
+      → Eased (λ (h : Halt). h .stop .number ≡ own) halted budget′
+      (runBlocks t rules budget 0 blocks (start s)) (runBlocks t rules′ budget′ 0 blocks (start s))
+  unfolding start
+  played t blocks s = blocks-eased t (m t) 0 blocks (start s) (record { grown = omega arith; kept = omega arith })
+
+  runs-alike : (store programme : List ℕ) (room : ℕ)
+      → Unless (λ (a : Answer). a .number ≡ own) (runUnder rules store programme budget room) (runUnder rules′ store programme budget′ room)
+  unfolding runUnder runOpened runProgramme haltAnswer
+  runs-alike store programme room =
+      rw allowed (
+      unless-require _ same-test λ _.
+      unless-then unless-same λ o.
+      unless-then unless-same λ blocks.
+      unless-require _ same-test λ _.
+      unless-then (unless-refused-as _ (played (o .tables) blocks (o .store) .alike)) (λ s. unless-same))
+
+  runs-further : (store programme : List ℕ) (room : ℕ)
+      → AsFar (runUnder rules store programme budget room) (runUnder rules′ store programme budget′ room)
+  unfolding runUnder runOpened runProgramme
+  runs-further store programme room =
+      rw allowed (
+      require-far _ _ _ _ (
+      bind-far _ _ _ λ o.
+      bind-far _ _ _ λ blocks.
+      require-far _ _ _ _ (answers-far _ _ _ _ _ _ (played (o .tables) blocks (o .store)))))
 
 -- a run that is not refused by `own` is the other run, so both have one answer and one output
 ends : {own : ℕ} (old : List ℕ) {r r′ : Result Answer Finished} → Unless (λ (a : Answer). a .number ≡ own) r r′
@@ -55,7 +108,7 @@ fewer-labels rules rules′ p q f t b =
     }
 
 -- from rule 1 to rule 0: a write view that rule 1 admits has its owner in the region, and that is all that rule 0 asks
-pub views-judged : {budget : ℕ} (t : Tables) (b : Block) → Milder 15 (setting t capability budget b) (setting t accessControl budget b)
+views-judged : {budget : ℕ} (t : Tables) (b : Block) → Milder 15 (setting t capability budget b) (setting t accessControl budget b)
 unfolding judgesViews judgesRegion labelsJudged inRegion authorised reliable _and_ _implies_
 views-judged t b =
     record {
@@ -67,17 +120,17 @@ views-judged t b =
     }
 
 -- the same rules under a larger budget
-pub larger-budget : {rules : RuleSet} {budget budget′ : ℕ} → budget ≤ budget′
+larger-budget : {rules : RuleSet} {budget budget′ : ℕ} → budget ≤ budget′
     → (t : Tables) (b : Block) → Milder 17 (setting t rules budget b) (setting t rules budget′ b)
 unfolding inRegion authorised reliable
 larger-budget l t b =
     record { views = λ v. same-test; regions = λ v _ _. same-test; labels = λ i x y branch. same-test; larger = l; spent = λ o. absurd (o refl) }
 
-pub three-to-two : {budget : ℕ} (t : Tables) (b : Block) → Milder 16 (setting t fullProvenance budget b) (setting t explicitProvenance budget b)
+three-to-two : {budget : ℕ} (t : Tables) (b : Block) → Milder 16 (setting t fullProvenance budget b) (setting t explicitProvenance budget b)
 unfolding judgesViews judgesRegion labelsJudged
 three-to-two = fewer-labels _ _ refl refl (λ x y branch. (branch ∷ [], refl))
 
-pub two-to-none : {budget : ℕ} (t : Tables) (b : Block) → Milder 16 (setting t explicitProvenance budget b) (setting t accessControl budget b)
+two-to-none : {budget : ℕ} (t : Tables) (b : Block) → Milder 16 (setting t explicitProvenance budget b) (setting t accessControl budget b)
 unfolding judgesViews judgesRegion labelsJudged
 two-to-none = fewer-labels _ _ refl refl (λ x y branch. (x ∷ y ∷ [], refl))
 
@@ -105,3 +158,20 @@ budgets store programme rule budget budget′ old l most =
     ends old
     (unless-then unless-same λ rules.
     runs-alike (rw (le-leb budget mostBudget (omega arith), le-leb budget′ mostBudget most)) (larger-budget l) store programme (length old))
+
+budgets-further : (store programme : List ℕ) (rule budget budget′ : ℕ) (old : List ℕ) → budget ≤ budget′ → budget′ ≤ mostBudget
+    → AsFar (run store programme rule budget (length old)) (run store programme rule budget′ (length old))
+unfolding run
+budgets-further store programme rule budget budget′ old l most =
+    bind-far _ _ _ λ rules.
+    runs-further (rw (le-leb budget mostBudget (omega arith), le-leb budget′ mostBudget most)) (larger-budget l) store programme (length old)
+
+pub further : Further
+unfolding run rulesOf refusedAs _>>=_
+further =
+    record {
+      from-3-to-2 = λ store programme budget old. runs-further refl three-to-two store programme (length old);
+      from-2-to-0 = λ store programme budget old. runs-further refl two-to-none store programme (length old);
+      from-1-to-0 = λ store programme budget old. runs-further refl views-judged store programme (length old);
+      larger-budget = budgets-further;
+    }

@@ -15,9 +15,9 @@ pub mod Faithful
 pub mod Isolation
 pub mod RuleNumbers
 pub mod Unless
+pub mod Eased
 pub mod Milder
 pub mod Ladder
-pub mod Further
 pub mod OwnRefusals
 pub mod Kept
 pub mod Stepwise

@@ -5,24 +5,24 @@ use mathlib.Core.Path.{_≡_}
 use mathlib.Core.Bool.{true, not}
 use mathlib.Core.List.{List, [], _∷_}
 use native.Mathlib.Omega.{arith}
-use lib.Dec.{leb, eqb}
+use lib.Dec.{eqb}
 use borrow.Author.Tests.{eqb-false, ne-eqb, not-true}
 use Rattle.lattice.specs.Order.{Label, meet, top}
-use Rattle.store.specs.declared.Answer.{Answer}
 use Rattle.store.specs.declared.Value.{Value}
 use Rattle.store.specs.Value.{isWriteView, viewed}
 use Rattle.store.specs.Result.{Result}
 use Rattle.store.specs.Sheet.{Tables}
-use Rattle.store.proofs.Result.{Post, post-refused-as}
+use Rattle.store.proofs.Result.{Post, post-refuse, post-refused-as}
 use Rattle.programme.specs.Sheet.{Block}
 use Rattle.programme.specs.Syntax.{Expr, literal, read, Cmd, cmd, Body, skip, assign, seq, if, while, Cmds, nil, cons}
 use Rattle.calculus.specs.Rules.{RuleSet, labelsJudged}
 use Rattle.calculus.specs.Calculus.{Setting, Store, Labelled, State, Stop, mayHold, admit, fetch, eval, judge, authorised, reliable, permit, assignment, counted, step, loop, exec, execBody, execs}
-use Rattle.calculus.specs.Blocks.{Halt, haltAnswer, setting, runBlocks, mostBudget, start}
-use Rattle.calculus.specs.Run.{runProgramme, runOpened, runUnder}
-use Rattle.calculus.proofs.Steps.{Counted, tick, made, exec-counts}
+use Rattle.calculus.specs.Blocks.{Halt, setting, runBlocks}
+use Rattle.calculus.proofs.Steps.{choose-both, Counted, tick, tried, rounds-count, exec-counts, body-counts, execs-counts}
+use Rattle.calculus.proofs.Blocks.{stopped, halted, run-counts}
 use Rattle.calculus.proofs.Authority.{eval-held}
-use Rattle.calculus.proofs.Unless.{Unless, Follows, same-test, unless-same, unless-require, unless-bind, unless-then, unless-refused-as, unless-choose}
+use Rattle.calculus.proofs.Eased.{Gets, Eased, eased-end, eased-bind, eased-step, eased-halted}
+use Rattle.calculus.proofs.Unless.{Unless, Follows, same-test, unless-same, unless-require, unless-bind, unless-then, unless-refused-as}
 
 -- Each test under w′ passes where the same test under w does, and has the same outcome unless it is the one that refuses by `own`.
 -- The test that refuses by 17 is that of the budget.
@@ -35,7 +35,7 @@ pub record Milder (own : ℕ) (w w′ : Setting) : Type 0 where
   pub larger : w .budget ≤ w′ .budget
   pub spent : (17 ≡ own → ⊥) → w′ .budget ≡ w .budget
 
-abbrev pub under : RuleSet → ℕ → Setting → Setting
+abbrev under : RuleSet → ℕ → Setting → Setting
 under rules budget w = record { tables = w .tables; rules = rules; header = w .header; budget = budget }
 
 -- w under the second rules and budget does what w does, unless w refuses by `own`
@@ -61,11 +61,11 @@ module _ (own : ℕ) (rules′ : RuleSet) (budget′ : ℕ) (w : Setting) (m : M
   evals s (literal v) = admits _
   evals s (read e) = unless-then (evals s e) (λ x. unless-require _ same-test (λ _. admits _))
 
-  pub judges : (s : Store) (g : Expr) → Unless Own (judge w s g) (judge w′ s g)
+  judges : (s : Store) (g : Expr) → Unless Own (judge w s g) (judge w′ s g)
   unfolding judge
   judges s g = unless-then (evals s g) (λ x. unless-same)
 
-  pub assigns : (branch : Label) (s : Store) (t v : Expr) → Unless Own (assignment w branch s t v) (assignment w′ branch s t v)
+  assigns : (branch : Label) (s : Store) (t v : Expr) → Unless Own (assignment w branch s t v) (assignment w′ branch s t v)
   unfolding assignment permit
   assigns branch s t v =
       unless-bind _ _ (evals s t) (eval-held w s t) λ x h.
@@ -82,73 +82,77 @@ module _ (own : ℕ) (rules′ : RuleSet) (budget′ : ℕ) (w : Setting) (m : M
         else = λ o. rw (m .spent o);
       }
 
-  pub steps : {A : Type 0} (at : ℕ) (s : State) {r r′ : Result ℕ A} → Within s → Unless Own r r′
+  steps : {A : Type 0} (at : ℕ) (s : State) {r r′ : Result ℕ A} → Within s → Unless Own r r′
       → Unless OwnStop (step w at s r) (step w′ at s r′)
   unfolding step
   steps at s h u = unless-refused-as _ (unless-require _ (unspent (s .steps) (h .kept)) (λ _. u))
 
-  -- the first is out of fuel with the second, or before it where `own` is 17
-  rounds : (g : Expr) (c : Cmd) (at : ℕ) (branch : Label)
-      → ((l : Label) (s : State) → Within s → Unless OwnStop (exec w c l s) (exec w′ c l s))
-      → (n n′ : ℕ) (s : State) → n ≤ n′ → ((17 ≡ own → ⊥) → n′ ≡ n) → Within s
-      → Unless OwnStop
-      (loop (λ t. step w at t (judge w (t .store) g)) (λ l t. exec w c (meet (w .tables .order) branch l) t) at n s)
-      (loop (λ t. step w′ at t (judge w′ (t .store) g)) (λ l t. exec w′ c (meet (w .tables .order) branch l) t) at n′ s)
-  unfolding loop
-  rounds g c at branch body zero n′ s l e h = unfold Post in record { else = λ o. rw (e o) }
-  rounds g c at branch body (suc n) zero s l e h = absurd (omega arith)
-  rounds g c at branch body (suc n) (suc n′) s l e h =
-      unless-bind _ _ (steps at s h (judges (s .store) g)) (made w 0 at s _ h) λ j q.
-      unless-choose _ _ _ _ _ _
-      (unless-bind _ _ (body _ (counted s) (tick w 0 s h q)) (exec-counts w 0 c _ (counted s) (tick w 0 s h q))
-      (λ t k. rounds g c at branch body n n′ t (omega arith) (λ o. omega (arith, e o)) k))
-      unless-same
+  abbrev Easier : Result Stop State → Result Stop State → Type 0
+  Easier = Eased OwnStop stopped budget′
+
+  -- the second run counts on from where the first is
+  from-here : (s : State) → Within s → Counted budget′ (s .steps) s
+  from-here s h = record { grown = omega arith; kept = omega (arith, h .kept, m .larger) }
+
+  module _ (g : Expr) (c : Cmd) (at : ℕ) (branch : Label) (body : (l : Label) (s : State) → Within s → Easier (exec w c l s) (exec w′ c l s)) where
+    counts : (i n : ℕ) (s : State) → Counted budget′ i s
+        → Gets stopped budget′ i (loop (λ t. step w′ at t (judge w′ (t .store) g)) (λ l t. exec w′ c (meet (w .tables .order) branch l) t) at n s)
+    counts i n s h = rounds-count w′ i g at _ (λ l t q. exec-counts w′ i c _ t q) n s h
+
+    -- the first is out of fuel with the second, or before it where `own` is 17
+    rounds : (n n′ : ℕ) (s : State) → n ≤ n′ → ((17 ≡ own → ⊥) → n′ ≡ n) → Within s
+        → Easier
+        (loop (λ t. step w at t (judge w (t .store) g)) (λ l t. exec w c (meet (w .tables .order) branch l) t) at n s)
+        (loop (λ t. step w′ at t (judge w′ (t .store) g)) (λ l t. exec w′ c (meet (w .tables .order) branch l) t) at n′ s)
+    unfolding loop
+    rounds zero n′ s l e h =
+        record {
+          alike = unfold Post in record { else = λ o. rw (e o) };
+          further = post-refuse _ _ _ (counts (s .steps) n′ s (from-here s h));
+        }
+    rounds (suc n) zero s l e h = absurd (omega arith)
+    rounds (suc n) (suc n′) s l e h =
+        eased-step _ s _ _ _ _ (steps at s h (judges (s .store) g)) (tried w 0 at s _ h) (counts (s .steps) (suc n′) s (from-here s h)) λ j q.
+        choose-both Easier (j .passes) _ _ _ _ _ _
+        (eased-bind _ _ _ _ _ _ (body _ (counted s) (tick w 0 s h q)) (exec-counts w 0 c _ (counted s) (tick w 0 s h q))
+        (λ t k. rounds n n′ t (omega arith) (λ o. omega (arith, e o)) k) (λ i t k. counts i n′ t k))
+        (eased-end _)
 
   mutual
     unfolding exec execBody execs
 
-    pub exec-alike : (c : Cmd) (branch : Label) (s : State) → Within s → Unless OwnStop (exec w c branch s) (exec w′ c branch s)
-    exec-alike (cmd at end b) branch s h = body-alike b at branch s h
+    exec-eased : (c : Cmd) (branch : Label) (s : State) → Within s → Easier (exec w c branch s) (exec w′ c branch s)
+    exec-eased (cmd at end b) branch s h = body-eased b at branch s h
 
-    body-alike : (b : Body) (at : ℕ) (branch : Label) (s : State) → Within s
-        → Unless OwnStop (execBody w b at branch s) (execBody w′ b at branch s)
-    body-alike skip at branch s h = unless-same
-    body-alike (assign t v) at branch s h = unless-then (steps at s h (assigns branch (s .store) t v)) (λ x. unless-same)
-    body-alike (seq cs) at branch s h = execs-alike cs branch s h
-    body-alike (if g c d) at branch s h =
-        unless-bind _ _ (steps at s h (judges (s .store) g)) (made w 0 at s _ h) λ j q.
-        unless-choose _ _ _ _ _ _ (exec-alike c _ (counted s) (tick w 0 s h q)) (exec-alike d _ (counted s) (tick w 0 s h q))
-    body-alike (while g c) at branch s h =
-        rounds g c at branch (λ l t k. exec-alike c l t k) (w .budget - s .steps) (budget′ - s .steps) s (omega (arith, m .larger))
+    body-eased : (b : Body) (at : ℕ) (branch : Label) (s : State) → Within s → Easier (execBody w b at branch s) (execBody w′ b at branch s)
+    body-eased skip at branch s h = eased-end s
+    body-eased (assign t v) at branch s h =
+        eased-step _ s _ _ _ _ (steps at s h (assigns branch (s .store) t v)) (tried w 0 at s _ h)
+        (body-counts w′ (s .steps) (assign t v) at branch s (from-here s h)) (λ x q. eased-end _)
+    body-eased (seq cs) at branch s h = execs-eased cs branch s h
+    body-eased (if g c d) at branch s h =
+        eased-step _ s _ _ _ _ (steps at s h (judges (s .store) g)) (tried w 0 at s _ h)
+        (body-counts w′ (s .steps) (if g c d) at branch s (from-here s h)) λ j q.
+        choose-both Easier (j .passes) _ _ _ _ _ _ (exec-eased c _ (counted s) (tick w 0 s h q)) (exec-eased d _ (counted s) (tick w 0 s h q))
+    body-eased (while g c) at branch s h =
+        rounds g c at branch (λ l t k. exec-eased c l t k) (w .budget - s .steps) (budget′ - s .steps) s (omega (arith, m .larger))
         (λ o. rw (m .spent o)) h
 
-    execs-alike : (cs : Cmds) (branch : Label) (s : State) → Within s → Unless OwnStop (execs w cs branch s) (execs w′ cs branch s)
-    execs-alike nil branch s h = unless-same
-    execs-alike (cons c cs) branch s h =
-        unless-bind _ _ (exec-alike c branch s h) (exec-counts w 0 c branch s h) (λ t k. execs-alike cs branch t k)
+    execs-eased : (cs : Cmds) (branch : Label) (s : State) → Within s → Easier (execs w cs branch s) (execs w′ cs branch s)
+    execs-eased nil branch s h = eased-end s
+    execs-eased (cons c cs) branch s h =
+        eased-bind _ _ _ _ _ _ (exec-eased c branch s h) (exec-counts w 0 c branch s h) (λ t k. execs-eased cs branch t k)
+        (λ i t k. execs-counts w′ i cs branch t k)
 
--- runs over the same sheets, with budgets that are both allowed or both not
-module _ {own : ℕ} {rules rules′ : RuleSet} {budget budget′ : ℕ} (allowed : leb budget′ mostBudget ≡ leb budget mostBudget)
-    (m : (t : Tables) (b : Block) → Milder own (setting t rules budget b) (setting t rules′ budget′ b)) where
-  pub blocks-alike : (t : Tables) (i : ℕ) (bs : List Block) (s : State) → Counted budget 0 s
-      → Unless (λ (h : Halt). h .stop .number ≡ own) (runBlocks t rules budget i bs s) (runBlocks t rules′ budget′ i bs s)
-  unfolding runBlocks
-  blocks-alike t i [] s h = unless-same
-  blocks-alike t i (b ∷ bs) s h =
-      unless-bind _ (λ (e : Halt). Counted budget 0 (e .stop .state))
-      (unless-refused-as _ (exec-alike own _ _ _ (m t b) (b .command) (top (t .order)) s h))
-      (post-refused-as _ _ _ _ (exec-counts (setting t rules budget b) 0 _ _ s h))
-      (λ u k. blocks-alike t (i + 1) bs u k)
-
-  pub runs-alike : (store programme : List ℕ) (room : ℕ)
-      → Unless (λ (a : Answer). a .number ≡ own) (runUnder rules store programme budget room) (runUnder rules′ store programme budget′ room)
-  unfolding runUnder runOpened runProgramme haltAnswer start
-  runs-alike store programme room =
-      rw allowed (
-      unless-require _ same-test λ _.
-      unless-then unless-same λ o.
-      unless-then unless-same λ blocks.
-      unless-require _ same-test λ _.
-      unless-then
-      (unless-refused-as _ (blocks-alike (o .tables) 0 blocks (start (o .store)) (record { grown = omega arith; kept = omega arith })))
-      (λ s. unless-same))
+-- the blocks of a programme
+pub blocks-eased : {own : ℕ} {rules rules′ : RuleSet} {budget budget′ : ℕ} (t : Tables)
+    → ((b : Block) → Milder own (setting t rules budget b) (setting t rules′ budget′ b))
+    → (i : ℕ) (bs : List Block) (s : State) → Counted budget 0 s
+    → Eased (λ (h : Halt). h .stop .number ≡ own) halted budget′ (runBlocks t rules budget i bs s) (runBlocks t rules′ budget′ i bs s)
+unfolding runBlocks
+blocks-eased t m i [] s h = eased-end s
+blocks-eased {own} {rules} {rules′} {budget} {budget′} t m i (b ∷ bs) s h =
+    eased-bind _ (λ (e : Halt). Counted budget 0 (halted e)) _ _ _ _
+    (eased-halted budget′ i _ _ (exec-eased own _ _ _ (m b) (b .command) (top (t .order)) s h))
+    (post-refused-as _ _ _ _ (exec-counts (setting t rules budget b) 0 _ _ s h))
+    (λ u k. blocks-eased t m (i + 1) bs u k) (λ n u k. run-counts t rules′ budget′ (i + 1) n bs u k)

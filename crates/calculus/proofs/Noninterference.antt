@@ -19,8 +19,8 @@ use Rattle.programme.specs.Syntax.{Expr, literal, read, Cmd, cmd, Body, skip, a
 use Rattle.calculus.specs.Rules.{fullProvenance}
 use Rattle.calculus.specs.Calculus.{Store, Labelled, Judged, Write, State, Stop, inRegion, admit, fetch, eval, judge, authorised, reliable, permit, assignment, counted, written, performed, step, loop, exec, execBody, execs}
 use Rattle.calculus.specs.Blocks.{setting, runBlocks}
-use Rattle.calculus.proofs.Steps.{post-choose, post-tried, post-loop}
-use Rattle.calculus.proofs.Pairs.{post₂-step, post₂-choose, post₂-loop, agree, apart}
+use Rattle.calculus.proofs.Steps.{choose-both, post-choose, post-tried, post-loop}
+use Rattle.calculus.proofs.Pairs.{post₂-step, post₂-loop, agree, apart}
 use Rattle.calculus.proofs.Taint.{Tainted, Principal, Agree, agree-refl, agree-join, agree-both, agree-tainted, tainted-down, principal-meet, tainted-left, tainted-right, eval-principal}
 use Rattle.calculus.proofs.Confined.{under, reliable-at, judge-label, judge-principal, Harmless, assignment-shut, Like, reach-confined, branch-confined}
 
@@ -181,7 +181,7 @@ module _ (w : Tables) (a : Label) (o : Ordered w) (in-a : Principal w a) (h : He
           go (steady r e) =
               post₂-bind _ _ _ _ _ _ (post₂-step _ _ _ _ _ _ _ _ (judge-same b b′ _ _ g (e b _ m ∙ sym (e b′ _ (agree-refl w a _))))) λ j j′ q.
               rw (← q .0) (
-              post₂-choose _ _ _ _ _ _ _ _
+              choose-both (Post₂ (Alike w a)) (j .passes) _ _ _ _ _ _
               (ihc _ (principal-meet w a o in-a _ _ p (q .1)) (counted s) (counted t) m)
               (ihd _ (principal-meet w a o in-a _ _ p (q .1)) (counted s) (counted t) m))
 

@@ -3,10 +3,11 @@
 use Prim.Native.Nat.{ℕ}
 use mathlib.Core.Path.{_≡_, refl}
 use mathlib.Core.Logic.{_⊎_, inl, inr, ⊎-elim}
-use mathlib.Core.Bool.{Bool, true, false}
+use mathlib.Core.Bool.{true, false}
 use mathlib.Core.List.{List}
+use borrow.Table.Steps.{cases}
 use Rattle.lattice.specs.Tests.{_or_}
-use Rattle.lattice.specs.Order.{Label, below, top}
+use Rattle.lattice.specs.Order.{Label, below}
 use Rattle.lattice.proofs.Tests.{and-l}
 use Rattle.store.specs.Value.{viewed}
 use Rattle.store.specs.Sheet.{Tables, ownerOf}
@@ -17,15 +18,15 @@ use Rattle.programme.specs.Syntax.{Expr, literal, read, LiteralOf}
 use Rattle.programme.specs.Sheet.{Block}
 use Rattle.programme.proofs.Placed.{IsBlock}
 use Rattle.calculus.specs.Rules.{explicitProvenance, rulesOf, labelsJudged, allAbove}
-use Rattle.calculus.specs.Calculus.{Store, Labelled, contents, admit, fetch, eval, reliable, permit, assignment, exec}
+use Rattle.calculus.specs.Calculus.{Store, Labelled, contents, admit, fetch, eval, reliable, permit, assignment}
 use Rattle.calculus.specs.Blocks.{setting}
 use Rattle.calculus.specs.Isolation.{withinReach}
 use Rattle.calculus.specs.Deputy.{BareBlocksSpare, NoneEndorsedOutside, ProvenanceSafety}
 use Rattle.calculus.proofs.Rules.{rules-one}
 use Rattle.calculus.proofs.Taint.{Tainted, Principal, Agree, agree-refl, agree-tainted, tainted-down, tainted-right, eval-principal}
-use Rattle.calculus.proofs.Invariant.{exec-keeps}
+use Rattle.calculus.proofs.Invariant.{exec-ends}
 use Rattle.calculus.proofs.Authority.{reach-keeps}
-use Rattle.calculus.proofs.Kept.{Ends, Keeps, keeps-under, protected-kept}
+use Rattle.calculus.proofs.Kept.{Keeps, keeps-under, protected-kept}
 use Rattle.calculus.proofs.Capability.{Low, low-literals, low-at}
 
 module _ (w : Tables) (a : Label) (o : Ordered w) (in-a : Principal w a) (u : Store)
@@ -37,11 +38,8 @@ module _ (w : Tables) (a : Label) (o : Ordered w) (in-a : Principal w a) (u : St
   -- a read from a slot of a tainted owner has a tainted label; any other slot is as it was in u
   read-shown : (s : Store) → Agree w a s u → (j : ℕ) (m : Label) → (Tainted w a (ownerOf w j) → Tainted w a m)
       → Shown (record { value = contents s j; label = m })
-  read-shown s agree j m taints = go (below (w .order) (ownerOf w j) a) refl
-    where
-      go : (b : Bool) → below (w .order) (ownerOf w j) a ≡ b → Shown (record { value = contents s j; label = m })
-      go true e = inr (taints e)
-      go false e = inl (rw (contents, agree .held j e) (high j e))
+  read-shown s agree j m taints =
+      cases (below (w .order) (ownerOf w j) a) (λ e. inr (taints e)) (λ e. inl (rw (contents, agree .held j e) (high j e)))
 
   module _ (k : ℕ) (b : Block) (bare : b .header .endorsed ≡ false) where
     shown : (s : Store) → Agree w a s u → (e : Expr) → LiteralOf (Low w a) e → Post Shown Any (eval (setting w explicitProvenance k b) s e)
@@ -73,18 +71,14 @@ module _ (w : Tables) (a : Label) (o : Ordered w) (in-a : Principal w a) (u : St
 
   module _ (p : List ℕ) (spare : BareBlocksSpare w a p) (bare : NoneEndorsedOutside w a p) where
     block-agrees : (k j : ℕ) (b : Block) → IsBlock (w .slots) p j b → Keeps (λ t. Agree w a t u) w explicitProvenance k j b
-    block-agrees k j b is s m = go (withinReach w a p j) refl
-      where
-        go : (t : Bool) → withinReach w a p j ≡ t
-            → Ends (λ t. Agree w a t u) (exec (setting w explicitProvenance k b) (b .command) (top (w .order)) s)
-        go true e = reach-keeps (setting w explicitProvenance k b) a o in-a (rw (is .header) e) u (b .command) _ s m
-        go false e =
-            let plain = bare j (is .inside) e in
-            exec-keeps (setting w explicitProvenance k b) (Low w a) (λ t. Agree w a t u) (λ _. Unit {0})
-            (λ _ s g _. post-all _ _ _ (λ _. tt) (λ _. tt))
-            (λ branch s t v _ l _ m. post-map _ _ _ _ _ (unprotected k b (rw (is .header) plain) branch s t v l m)
-            (λ x q. agree-tainted w a x s u q m) (λ _ _. tt))
-            (b .command) (low-literals w a p j b is (spare j (is .inside) e plain (b .command) (is .code))) _ tt s m
+    block-agrees k j b is s m =
+        cases (withinReach w a p j)
+        (λ e. reach-keeps (setting w explicitProvenance k b) a o in-a (rw (is .header) e) u (b .command) _ s m)
+        (λ e. let plain = bare j (is .inside) e in
+        exec-ends (setting w explicitProvenance k b) (λ t. Agree w a t u) (Low w a)
+        (λ branch s t v l _ m. post-map _ _ _ _ _ (unprotected k b (rw (is .header) plain) branch s t v l m)
+        (λ x q. agree-tainted w a x s u q m) (λ _ _. tt))
+        (b .command) (low-literals w a p j b is (spare j (is .inside) e plain (b .command) (is .code))) _ s m)
 
 pub provenance-safety : ProvenanceSafety
 unfolding rulesOf

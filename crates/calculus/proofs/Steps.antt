@@ -10,6 +10,13 @@ use Rattle.programme.specs.Syntax.{Expr, Cmd, cmd, Body, skip, assign, seq, if,
 use Rattle.store.proofs.Result.{Post, Any, post-ok, post-refuse, post-all, post-map, post-require, post-refused-as, post-bind}
 use Rattle.calculus.specs.Calculus.{Setting, State, Stop, Judged, Write, counted, performed, stopAt, step, judge, choose, loop, exec, execBody, execs}
 
+-- a relation that holds of the two parts chosen from
+pub choose-both : {A A′ B B′ : Type 0} (R : B → B′ → Type 0) (b : Bool) (f g : A → B) (f′ g′ : A′ → B′) (a : A) (a′ : A′)
+    → R (f a) (f′ a′) → R (g a) (g′ a′) → R (choose b f g a) (choose b f′ g′ a′)
+unfolding choose
+choose-both R true f g f′ g′ a a′ p q = p
+choose-both R false f g f′ g′ a a′ p q = q
+
 module _ {A B : Type 0} where
   pub post-choose : {E : Type 0} (P : B → Type 0) (Q : E → Type 0) (b : Bool) (f g : A → Result E B) (a : A)
       → (b ≡ true → Post P Q (f a)) → (b ≡ false → Post P Q (g a)) → Post P Q (choose b f g a)
@@ -74,12 +81,15 @@ module _ (w : Setting) (from : ℕ) where
   unfolding performed counted
   tick-write x s c h = record { grown = omega (arith, c .grown); kept = omega arith }
 
-  -- a step from a counted state
+  -- a step from a counted state: made, or refused where it was tried
+  pub tried : {A : Type 0} (at : ℕ) (s : State) (r : Result ℕ A) → Ok s
+      → Post (λ (a : A). s .steps < w .budget) (λ e. e .state ≡ s) (step w at s r)
+  tried at s r h =
+      post-map _ _ _ _ _ (post-step w at s (λ _. Unit {0}) r (h .kept) (post-all _ _ _ (λ _. tt) (λ _. tt))) (λ a p. p .0) (λ e q. q)
+
   pub made : {A : Type 0} (at : ℕ) (s : State) (r : Result ℕ A) → Ok s
       → Post (λ (a : A). s .steps < w .budget) Stopped (step w at s r)
-  made at s r h =
-      post-map _ _ _ _ _ (post-step w at s (λ _. Unit {0}) r (h .kept) (post-all _ _ _ (λ _. tt) (λ _. tt)))
-      (λ a p. p .0) (λ e q. rw q h)
+  made at s r h = post-map _ _ _ _ _ (tried at s r h) (λ a p. p) (λ e q. rw q h)
 
   -- the rounds of a while, with any fuel
   pub rounds-count : (g : Expr) (at : ℕ) (body : Label → State → Result Stop State)

@@ -10,7 +10,7 @@ use borrow.Author.Tests.{eq-eqb, eqb-true, eqb-false, ne-eqb}
 use Rattle.lattice.specs.Order.{Label, top}
 use Rattle.store.specs.Result.{Result, ok, refuse, _>>=_, require, refusedAs}
 use Rattle.store.specs.Sheet.{Tables}
-use Rattle.store.proofs.Result.{Post, Any, post-ok, post-refuse, post-all, post-map, post-refused-as, post-bind}
+use Rattle.store.proofs.Result.{Post, Any, post-ok, post-refuse, post-all, post-map, post-refused-as, post-bind, bind-with}
 use Rattle.programme.specs.Syntax.{Expr, literal, read, Cmd, cmd, Body, skip, assign, seq, if, while, Cmds, nil, cons}
 use Rattle.programme.specs.Sheet.{Block}
 use Rattle.calculus.specs.Rules.{RuleSet}
@@ -18,7 +18,7 @@ use Rattle.calculus.specs.Calculus.{Setting, Store, Judged, State, Stop,
 use Rattle.calculus.specs.Blocks.{Halt, haltIn, setting, runBlocks, start}
 use Rattle.calculus.specs.Kept.{reached, stateWithin, Next, stays, judged, made, StepByStep}
 use Rattle.calculus.proofs.Steps.{Counted, post-tried, exec-counts}
-use Rattle.calculus.proofs.Blocks.{run-counts}
+use Rattle.calculus.proofs.Blocks.{stopped, halted, run-counts}
 use Rattle.calculus.proofs.While.{while-law}
 use Rattle.calculus.proofs.Kept.{at-reached}
 
@@ -46,13 +46,6 @@ module _ {E : Type 0} (place : E → State) (m : ℕ) where
     near : m ≡ k + 1 → (s : State) → Counted k from s → Beside (f s) (f′ s)
     far : (t : State) → t .steps ≡ m → Still t (f′ t)
 
-  -- two runs that begin alike
-  beside-after : {A : Type 0} (P : A → Type 0) (Q : E → Type 0) (r : Result E A) (f f′ : A → Result E State)
-      → Post P Q r → ((a : A) → P a → Beside (f a) (f′ a)) → Beside (r >>= f) (r >>= f′)
-  unfolding Post _>>=_
-  beside-after P Q (ok a) f f′ p h = h a p
-  beside-after P Q (refuse e) f f′ p h = agree refl
-
 module _ {E : Type 0} {place : E → State} {m k from : ℕ} where
   twin-ok : Twin place m k from ok ok
   twin-ok = record { near = λ _ s _. agree refl; far = λ t _. post-ok _ _ _ refl }
@@ -74,12 +67,9 @@ module _ {E : Type 0} {place : E → State} {m k from : ℕ} where
       }
     where
       go : m ≡ k + 1 → (r r′ : Result E State) → Post (Counted k from) Q r → Beside place m r r′ → Beside place m (r >>= g) (r′ >>= g′)
-      go e r r′ c (agree d) = rw (← d) (beside-after place m _ Q r g g′ c (q .near e))
+      go e r r′ c (agree d) = rw (← d) (bind-with (Beside place m) _ Q r g g′ c (q .near e) (λ _. agree refl))
       go e r r′ c (apart x d on) =
           apart x (rw d) (post-bind _ _ _ r′ g′ on (λ t n. on-still place m _ t _ (n .0) (n .1) (q .far t (n .1))))
-
-abbrev stopped : Stop → State
-stopped e = e .state
 
 module _ (w : Setting) (m : ℕ) where
   abbrev w′ : Setting
@@ -114,8 +104,8 @@ module _ (w : Setting) (m : ℕ) where
       go d s h false e =
           let l : s .steps < w .budget = omega (arith, h .kept, eqb-false (s .steps) (w .budget) e) in
           rw (e, ne-eqb (s .steps) m (λ q. omega arith))
-          (beside-after stopped m Any Any (refusedAs _ (r′ s)) _ _ (post-all _ _ _ (λ _. tt) (λ _. tt)) λ a _.
-          p a .near d (to a s) (record { grown = omega (arith, adds a s, h .grown); kept = omega (arith, adds a s) }))
+          (bind-with (Beside stopped m) Any Any (refusedAs _ (r′ s)) _ _ (post-all _ _ _ (λ _. tt) (λ _. tt))
+          (λ a _. p a .near d (to a s) (record { grown = omega (arith, adds a s, h .grown); kept = omega (arith, adds a s) })) (λ _. agree refl))
 
   -- a guard, and then what follows from its verdict
   twin-judged : (from at : ℕ) (g : Expr) (f f′ : Judged → State → Result Stop State) → ((j : Judged) → Both (from + 1) (f j) (f′ j))
@@ -160,9 +150,6 @@ module _ (w : Setting) (m : ℕ) where
     execs-twin : (cs : Cmds) (from : ℕ) (branch : Label) → Both from (execs w cs branch) (execs w′ cs branch)
     execs-twin nil from branch = twin-ok
     execs-twin (cons c cs) from branch = twin-bind _ (exec-counts w from c branch) (exec-twin c from branch) (execs-twin cs from branch)
-
-abbrev halted : Halt → State
-halted h = h .stop .state
 
 beside-halted : (m i : ℕ) (r r′ : Result Stop State) → Beside stopped m r r′ → Beside halted m (refusedAs (haltIn i) r) (refusedAs (haltIn i) r′)
 unfolding refusedAs

@@ -1,7 +1,6 @@
 -- The law of while: its guard, then its body and itself again. No fuel is seen. Assumes nothing.
 use Prim.Native.Nat.{ℕ, zero, suc, _+_, _-_, _≤_}
 use mathlib.Core.Path.{_≡_, refl, sym, _∙_}
-use mathlib.Core.Bool.{Bool, true, false}
 use native.Mathlib.Omega.{arith}
 use borrow.Author.Tests.{eq-eqb}
 use Rattle.lattice.specs.Order.{Label, meet}
@@ -9,12 +8,7 @@ use Rattle.store.specs.Result.{Result, ok, _>>=_, require, refusedAs}
 use Rattle.programme.specs.Syntax.{Expr, Cmd, cmd, while}
 use Rattle.store.proofs.Result.{bind-same}
 use Rattle.calculus.specs.Calculus.{Setting, State, Stop, counted, step, judge, choose, loop, exec, execBody}
-use Rattle.calculus.proofs.Steps.{Counted, made, exec-counts}
-
-choose-same : {A B : Type 0} (b : Bool) (f f′ g : A → B) (a : A) → f a ≡ f′ a → choose b f g a ≡ choose b f′ g a
-unfolding choose
-choose-same true f f′ g a p = p
-choose-same false f f′ g a p = refl
+use Rattle.calculus.proofs.Steps.{choose-both, Counted, made, exec-counts}
 
 module _ (w : Setting) (g : Expr) (c : Cmd) (at : ℕ) (branch : Label) where
   -- one round, and then k
@@ -32,8 +26,8 @@ module _ (w : Setting) (g : Expr) (c : Cmd) (at : ℕ) (branch : Label) where
   unfolding counted
   once-same k k′ s h same =
       bind-same _ _ _ _ _ (made w (s .steps) at s _ (record { grown = omega arith; kept = h })) λ j q.
-      choose-same (j .passes) _ _ _ _
-      (bind-same _ _ _ _ _ (exec-counts w (s .steps + 1) c _ (counted s) (record { grown = omega arith; kept = omega arith })) same)
+      choose-both _≡_ (j .passes) _ _ _ _ _ _
+      (bind-same _ _ _ _ _ (exec-counts w (s .steps + 1) c _ (counted s) (record { grown = omega arith; kept = omega arith })) same) refl
 
   spent : (n : ℕ) (s : State) → s .steps ≡ w .budget → rounds (suc n) s ≡ rounds zero s
   unfolding loop step require refusedAs _>>=_

@@ -10,14 +10,12 @@ use Rattle.store.specs.Result.{ok}
 use Rattle.store.specs.Bytes.{part}
 use Rattle.store.specs.Value.{valueWidth, slotWidth}
 use Rattle.store.specs.Sheet.{Tables, storeSheet}
-use Rattle.programme.specs.Syntax.{Cmd, Literals}
-use Rattle.programme.specs.Code.{readBlock}
-use Rattle.programme.specs.Sheet.{kOf, headerAt, codeOf}
+use Rattle.programme.specs.Sheet.{kOf, headerAt}
 use Rattle.calculus.specs.Calculus.{Store, contents}
 use Rattle.calculus.specs.Run.{FinishedRun}
 use Rattle.calculus.specs.Faithful.{Good}
 use Rattle.calculus.specs.Isolation.{Protected, withinReach, Replacement}
-use Rattle.calculus.specs.Kept.{Spares, ProtectedKept}
+use Rattle.calculus.specs.Kept.{Spares, BlockSpares, ProtectedKept}
 
 -- source 003, definition 6, nihrHH: no protected slot holds a write view of a protected slot
 abbrev pub ProtectedSpare : Tables → Label → Store → Type 0
@@ -26,8 +24,7 @@ ProtectedSpare w adversary s = (i : ℕ) → Protected w adversary i → Spares 
 -- source 003, definition 4, nihrP: no block outside the adversary's reach that is not endorsed contains one
 abbrev pub BareBlocksSpare : Tables → Label → List ℕ → Type 0
 BareBlocksSpare w adversary p =
-    (i : ℕ) → i < kOf p → withinReach w adversary p i ≡ false → headerAt p i .endorsed ≡ false
-    → (c : Cmd) → readBlock (w .slots) (codeOf p i) ≡ ok c → Literals (Spares w adversary) c
+    (i : ℕ) → i < kOf p → withinReach w adversary p i ≡ false → headerAt p i .endorsed ≡ false → BlockSpares w adversary p i
 
 -- no block outside the adversary's reach is endorsed
 abbrev pub NoneEndorsedOutside : Tables → Label → List ℕ → Type 0

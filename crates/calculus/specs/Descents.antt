@@ -23,21 +23,21 @@ finished blocks steps output = record { answer = says 0 blocks 0 steps; output =
 abbrev pub refused : ℕ → ℕ → ℕ → ℕ → End
 refused number block offset steps = record { answer = says number block offset steps; output = blank }
 
+-- under a rule with a budget, and under another with another
+abbrev pub twice : ℕ → ℕ → ℕ → ℕ → List ℕ → List ℕ → End → End → Example
+twice rule budget rule′ budget′ store programme end end′ =
+    record {
+      before = runs rule budget store programme (end .answer) (end .output);
+      after = runs rule′ budget′ store programme (end′ .answer) (end′ .output);
+    }
+
 -- under a rule and under another, with a budget of 10
 abbrev pub under : ℕ → ℕ → List ℕ → List ℕ → End → End → Example
-under rule rule′ store programme end end′ =
-    record {
-      before = runs rule 10 store programme (end .answer) (end .output);
-      after = runs rule′ 10 store programme (end′ .answer) (end′ .output);
-    }
+under rule rule′ = twice rule 10 rule′ 10
 
 -- under a rule, with a budget and with a larger one
 abbrev pub within : ℕ → ℕ → ℕ → List ℕ → List ℕ → End → End → Example
-within rule budget budget′ store programme end end′ =
-    record {
-      before = runs rule budget store programme (end .answer) (end .output);
-      after = runs rule budget′ store programme (end′ .answer) (end′ .output);
-    }
+within rule budget budget′ = twice rule budget rule budget′
 
 -- programmes: one block, and two, of the given regions
 abbrev pub alone : ℕ → List ℕ → List ℕ

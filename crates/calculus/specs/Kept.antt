@@ -67,11 +67,13 @@ Spares w adversary v = isWriteView v ≡ true → Protected w adversary (viewed 
 abbrev pub SlotsSpare : Tables → Label → Store → Type 0
 SlotsSpare w adversary s = (i : ℕ) → i < w .slots → Spares w adversary (contents s i)
 
+-- block i contains none as a literal
+abbrev pub BlockSpares : Tables → Label → List ℕ → ℕ → Type 0
+BlockSpares w adversary p i = (c : Cmd) → readBlock (w .slots) (codeOf p i) ≡ ok c → Literals (Spares w adversary) c
+
 -- "and let no block outside the stranger's reach contain one"
 abbrev pub BlocksSpare : Tables → Label → List ℕ → Type 0
-BlocksSpare w adversary p =
-    (i : ℕ) → i < kOf p → withinReach w adversary p i ≡ false
-    → (c : Cmd) → readBlock (w .slots) (codeOf p i) ≡ ok c → Literals (Spares w adversary) c
+BlocksSpare w adversary p = (i : ℕ) → i < kOf p → withinReach w adversary p i ≡ false → BlockSpares w adversary p i
 
 -- "Then protected slots still hold their opening values at every step": after any number of steps, and so in the output of a run that
 -- finishes

@@ -73,12 +73,16 @@ module _ {E A B : Type 0} where
   post-bind P P′ Q (ok a) k p h = h a p
   post-bind P P′ Q (refuse e) k p h = p
 
-  -- two continuations that agree on what the first answer can be
+  -- two continuations that are related on what the first answer can be
+  pub bind-with : (R : Result E B → Result E B → Type 0) (P : A → Type 0) (Q : E → Type 0) (r : Result E A) (k k′ : A → Result E B)
+      → Post P Q r → ((a : A) → P a → R (k a) (k′ a)) → ((e : E) → R (refuse e) (refuse e)) → R (r >>= k) (r >>= k′)
+  unfolding Post _>>=_
+  bind-with R P Q (ok a) k k′ p h l = h a p
+  bind-with R P Q (refuse e) k k′ p h l = l e
+
   pub bind-same : (P : A → Type 0) (Q : E → Type 0) (r : Result E A) (k k′ : A → Result E B)
       → Post P Q r → ((a : A) → P a → k a ≡ k′ a) → (r >>= k) ≡ (r >>= k′)
-  unfolding Post _>>=_
-  bind-same P Q (ok a) k k′ p h = h a p
-  bind-same P Q (refuse e) k k′ p h = refl
+  bind-same P Q r k k′ p h = bind-with _≡_ P Q r k k′ p h (λ e. refl)
 
 module _ {E A B C : Type 0} where
   pub bind-assoc : (r : Result E A) (k : A → Result E B) (l : B → Result E C)
