@@ -96,11 +96,15 @@ extern "C" {
 
 /* Bytes of the sheets and of the output */
 
-/* A value: its kind byte and its payload, the lowest byte first. */
-#define MUNTYZHAP_VALUE_BYTES 5
-#define MUNTYZHAP_PAYLOAD_BYTES 4
+/* A payload: one number, the lowest byte first. */
+#define MUNTYZHAP_PAYLOAD_BYTES 8
+/* A value, in sheets, code and output: its kind byte and its payload. */
+#define MUNTYZHAP_VALUE_BYTES (1 + MUNTYZHAP_PAYLOAD_BYTES)
+/* A signed integer, two's complement: an int64_t. */
 #define MUNTYZHAP_KIND_INTEGER 0
+/* The payload is 0 for false or 1 for true. */
 #define MUNTYZHAP_KIND_TRUTH 1
+/* The payload of a view is the number of a slot. */
 #define MUNTYZHAP_KIND_READ_VIEW 2
 #define MUNTYZHAP_KIND_WRITE_VIEW 3
 /* What a region byte has besides its principal when the block is endorsed. */

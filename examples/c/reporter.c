@@ -8,23 +8,30 @@
 #include <stdio.h>
 #include <stdlib.h>
 
-/* The customer's slot, and the laboratory's. */
-enum { SAMPLE = 0, REPORT = 1, SLOTS = 2 };
+/* The customer's sample. The laboratory's: its report of the sample, and a
+ * blank. */
+enum { SAMPLE = 0, REPORT = 1, BLANK = 2, SLOTS = 3 };
 enum { BLOCKS = 2, BUDGET = 10 };
 
+/* The sample's ratio, 0.815042637915, scaled by 10 to the 12th; and what stands
+ * for one that is not measured, the least integer. */
+#define RATIO INT64_C(815042637915)
+#define NOT_MEASURED INT64_MIN
+
 static const struct slot slots[SLOTS] = {
-    [SAMPLE] = {CUSTOMER, MUNTYZHAP_KIND_INTEGER, 5},
-    [REPORT] = {LABORATORY, MUNTYZHAP_KIND_INTEGER, 7},
+    [SAMPLE] = {CUSTOMER, MUNTYZHAP_KIND_INTEGER, NOT_MEASURED},
+    [REPORT] = {LABORATORY, MUNTYZHAP_KIND_INTEGER, NOT_MEASURED},
+    [BLANK] = {LABORATORY, MUNTYZHAP_KIND_INTEGER, NOT_MEASURED},
 };
 
-/* sample := 42 */
+/* sample := its ratio */
 static struct block customer_block(void)
 {
     struct block block = {CUSTOMER, {{0}, 0}};
 
     put_byte(&block.code, MUNTYZHAP_ASSIGNMENT);
     put_literal(&block.code, MUNTYZHAP_KIND_WRITE_VIEW, SAMPLE);
-    put_literal(&block.code, MUNTYZHAP_KIND_INTEGER, 42);
+    put_literal(&block.code, MUNTYZHAP_KIND_INTEGER, RATIO);
     return block;
 }
 

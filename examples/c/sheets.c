@@ -1,5 +1,6 @@
 #include "sheets.h"
 
+#include <inttypes.h>
 #include <stdio.h>
 #include <stdlib.h>
 
@@ -33,13 +34,13 @@ static void put_bytes(struct bytes *to, const struct bytes *from)
 }
 
 /* A negative payload becomes two's complement. */
-static void put_value(struct bytes *to, uint8_t kind, int32_t payload)
+static void put_value(struct bytes *to, uint8_t kind, integer payload)
 {
     put_byte(to, kind);
     put_number(to, (uint64_t)payload, MUNTYZHAP_PAYLOAD_BYTES);
 }
 
-void put_literal(struct bytes *to, uint8_t kind, int32_t payload)
+void put_literal(struct bytes *to, uint8_t kind, integer payload)
 {
     put_byte(to, MUNTYZHAP_LITERAL);
     put_value(to, kind, payload);
@@ -85,10 +86,10 @@ struct bytes programme_sheet(const struct block *blocks, size_t count)
 }
 
 /* The number in a payload, signed. */
-static long long payload_number(const uint8_t *payload)
+static integer payload_number(const uint8_t *payload)
 {
     size_t i = MUNTYZHAP_PAYLOAD_BYTES;
-    long long number = payload[i - 1] & 0x80 ? -1 : 0;
+    integer number = payload[i - 1] & 0x80 ? -1 : 0;
 
     while (i > 0)
         number = number * 256 + payload[--i];
@@ -97,20 +98,20 @@ static long long payload_number(const uint8_t *payload)
 
 static void print_value(const uint8_t *value)
 {
-    long long number = payload_number(value + 1);
+    integer number = payload_number(value + 1);
 
     switch (value[0]) {
     case MUNTYZHAP_KIND_INTEGER:
-        printf("integer %lld\n", number);
+        printf("integer %" PRId64 "\n", number);
         break;
     case MUNTYZHAP_KIND_TRUTH:
         printf("truth value %s\n", number == 1 ? "true" : "false");
         break;
     case MUNTYZHAP_KIND_READ_VIEW:
-        printf("read view of slot %lld\n", number);
+        printf("read view of slot %" PRId64 "\n", number);
         break;
     case MUNTYZHAP_KIND_WRITE_VIEW:
-        printf("write view of slot %lld\n", number);
+        printf("write view of slot %" PRId64 "\n", number);
         break;
     default:
         printf("unknown kind %d\n", value[0]);

@@ -13,11 +13,16 @@ struct bytes {
     size_t length;
 };
 
+/* The integers of a payload, which is as wide as they are. */
+typedef int64_t integer;
+typedef char integer_is_a_payload
+    [sizeof(integer) == MUNTYZHAP_PAYLOAD_BYTES ? 1 : -1];
+
 /* A slot: who owns it, and the kind and payload that it opens with. */
 struct slot {
     uint8_t owner;
     uint8_t kind;
-    int32_t payload;
+    integer payload;
 };
 
 /* A block: for whom it runs, and its one command. */
@@ -33,7 +38,7 @@ extern const uint32_t ORDER[PRINCIPALS];
 
 /* Parts of a command. No room left ends the program. */
 void put_byte(struct bytes *to, uint8_t byte);
-void put_literal(struct bytes *to, uint8_t kind, int32_t payload);
+void put_literal(struct bytes *to, uint8_t kind, integer payload);
 void put_read(struct bytes *to, uint8_t slot);
 
 /* Whole sheets. */

@@ -2,9 +2,9 @@
 
 use crate::bytes::number;
 
-/// The integers of a payload. A payload is exactly as wide as they are, so its
-/// width stands here alone.
-pub(crate) type Integer = i32;
+/// "Integers are signed 64-bit." (document 02, N3) A payload is exactly as wide
+/// as they are, so its width stands here alone.
+pub(crate) type Integer = i64;
 
 /// A slot of the store; only made for a number below the number of slots.
 #[derive(Debug, Clone, Copy, PartialEq, Eq)]
@@ -53,7 +53,8 @@ pub(crate) enum Value {
 
 impl Value {
     pub const PAYLOAD_BYTES: usize = size_of::<Integer>();
-    /// "A value is a kind byte and a 4-byte payload."
+    /// "A payload becomes 8 bytes and a value 9, in sheets, code and output."
+    /// (document 02, N3)
     pub const BYTES: usize = 1 + Value::PAYLOAD_BYTES;
 
     /// The value these bytes say, unless they are ill-formed.

@@ -156,20 +156,20 @@ fn formless_bytes_are_answered() {
 
 /// Pieces of code, each repeated some times, without any form.
 fn formless_code(random: &mut Random) -> Bytes {
-    let pieces: [&[u8]; 9] = [
-        &[0x10],
-        &[0x10, 0x01, 0, 0, 0, 0],
-        &[0x11],
-        &[0x20],
-        &[0x21],
-        &[0x22, 0x02],
-        &[0x23, 0x10, 0x01, 0x01, 0, 0, 0],
-        &[0x24, 0x10, 0x01, 0x00, 0, 0, 0],
-        &[0x00],
+    let pieces = [
+        vec![0x10],
+        literal(truth(false)),
+        vec![0x11],
+        vec![0x20],
+        vec![0x21],
+        vec![0x22, 0x02],
+        join(&[&[0x23], &literal(truth(true))]),
+        join(&[&[0x24], &literal(truth(false))]),
+        vec![0x00],
     ];
     let mut code = Bytes::new();
     for _ in 0..1 + random.below(4) {
-        let piece = pieces[random.below(pieces.len())];
+        let piece = &pieces[random.below(pieces.len())];
         code.extend(piece.repeat(1 + random.below(40)));
     }
     code

@@ -1,4 +1,5 @@
 //! The finds of document 01: P1 to P12, the others, and the printed example.
+//! "01's finds are worked again" (document 02, N3): values have nine bytes.
 
 mod common;
 
@@ -10,18 +11,29 @@ fn example_end() -> [Bytes; 2] {
     [integer(42), integer(42)]
 }
 
+/// The example's sheets, byte for byte, and what it prints.
+const STORE: &str = "02 0200 01000000 03000000 00 01 000500000000000000 000700000000000000";
+const PROGRAMME: &str = "02 2B00 00 01 1500 1600 \
+    21 10 030000000000000000 10 002A00000000000000 \
+    21 10 030100000000000000 11 10 020000000000000000";
+const LINES: &str = "end 0 block 2 at 0 steps 2\n0 0 0 42\n1 1 0 42\n";
+
+fn example_input() -> Bytes {
+    join(&[&hex("00 0A000000"), &hex(STORE), &hex(PROGRAMME)])
+}
+
 #[test]
 fn the_builder_gives_the_bytes_of_the_paper() {
-    let sheet = [
-        0x02, 0x02, 0x00, 0x01, 0, 0, 0, 0x03, 0, 0, 0, 0x00, 0x01, 0x00, 0x05, 0, 0, 0, 0x00,
-        0x07, 0, 0, 0,
-    ];
-    assert_eq!(example_store(), sheet);
-    let code = [
-        0x02, 0x1B, 0x00, 0x00, 0x01, 0x0D, 0x00, 0x0E, 0x00, 0x21, 0x10, 0x03, 0, 0, 0, 0, 0x10,
-        0x00, 0x2A, 0, 0, 0, 0x21, 0x10, 0x03, 0x01, 0, 0, 0, 0x11, 0x10, 0x02, 0, 0, 0, 0,
-    ];
-    assert_eq!(example_programme([0x00, 0x01]), code);
+    assert_eq!(example_store(), hex(STORE));
+    assert_eq!(example_programme([0x00, 0x01]), hex(PROGRAMME));
+}
+
+#[test]
+fn the_stored_files_are_the_example() {
+    let input = example_input();
+    assert_eq!(include_bytes!("../../examples/two-blocks.bin")[..], input);
+    assert_eq!(include_bytes!("../../crates/blockrun/stdin")[..], input);
+    assert_eq!(include_str!("../../crates/blockrun/stdout"), LINES);
 }
 
 #[test]
@@ -73,7 +85,8 @@ fn p9_a_branch_on_a_low_slot() {
     let code = if_else(slot(0), set_integer(1, 41), set_integer(1, 42));
     let under = |rule| call_block(&sheet, 1, code.clone(), rule);
     under(2).finishes(2, &[truth(true), integer(41)]);
-    under(3).refused(16, 0, 8, 1);
+    // "the branch of P9 then stands at offset 12"
+    under(3).refused(16, 0, 12, 1);
 }
 
 #[test]
@@ -167,11 +180,5 @@ fn slots_257_are_outside_the_limit() {
 
 #[test]
 fn the_example_is_printed_byte_for_byte() {
-    let input = join(&[
-        &[0x00, 0x0A, 0x00, 0x00, 0x00],
-        &example_store(),
-        &example_programme([0, 1]),
-    ]);
-    let lines = "end 0 block 2 at 0 steps 2\n0 0 0 42\n1 1 0 42\n";
-    assert_eq!(print(&input), lines.as_bytes());
+    assert_eq!(print(&example_input()), LINES.as_bytes());
 }

@@ -328,7 +328,7 @@ impl Author {
         let slot = self.slot();
         let spared = spares && self.is_outside(self.owners[slot]);
         match self.random.below(8) {
-            0 | 1 => integer(self.random.below(100) as i64),
+            0 | 1 => integer(self.random.integer()),
             2 => read_view(slot as i64),
             _ if spared => truth(true),
             _ => write_view(slot as i64),

@@ -190,7 +190,7 @@ impl Author {
 
     fn value(&mut self) -> Bytes {
         match self.random.below(8) {
-            0 => integer(9),
+            0 => integer(self.random.integer()),
             1 => write_view(self.slot()),
             _ => truth(self.random.one_in(2)),
         }

@@ -190,7 +190,8 @@ mod store_sheet {
     fn well_formed_values_are_good() {
         let values = [
             integer(-1),
-            integer(i64::from(i32::MIN)),
+            integer(LEAST),
+            integer(GREATEST),
             truth(false),
             truth(true),
             read_view(0),
@@ -211,12 +212,14 @@ mod store_sheet {
             value(255, 0),
             value(1, 2),
             value(1, 0x100),
+            value(1, LAST_BYTE),
             value(1, -1),
             read_view(6),
             read_view(0x100),
+            read_view(LAST_BYTE),
             read_view(-1),
             write_view(6),
-            write_view(0x0100_0000),
+            write_view(LAST_BYTE),
             write_view(-1),
         ];
         for value in values {
@@ -445,10 +448,12 @@ mod code {
             value(0x10, 0),
             value(255, 0),
             value(1, 2),
-            value(1, 0x0100_0000),
+            value(1, LAST_BYTE),
             read_view(2),
+            read_view(LAST_BYTE),
             write_view(2),
             write_view(256),
+            write_view(LAST_BYTE),
             write_view(-1),
         ];
         for value in bad {
@@ -1224,8 +1229,8 @@ mod printing {
     fn values_of_each_kind_are_printed() {
         let slots = [
             (1, integer(-1)),
-            (0, integer(i64::from(i32::MIN))),
-            (1, integer(i64::from(i32::MAX))),
+            (0, integer(LEAST)),
+            (1, integer(GREATEST)),
             (0, truth(false)),
             (1, truth(true)),
             (0, read_view(7)),
@@ -1235,8 +1240,8 @@ mod printing {
         let sheet = store(&PAIR, &slots);
         let lines = "end 0 block 0 at 0 steps 0\n\
                      0 1 0 -1\n\
-                     1 0 0 -2147483648\n\
-                     2 1 0 2147483647\n\
+                     1 0 0 -9223372036854775808\n\
+                     2 1 0 9223372036854775807\n\
                      3 0 1 0\n\
                      4 1 1 1\n\
                      5 0 2 7\n\
@@ -1262,7 +1267,7 @@ mod printing {
         let code = programme(&[(0, skip()), (1, choice)]);
         prints(
             &input(3, 10, &sheet, &code),
-            "end 16 block 1 at 8 steps 1\n",
+            "end 16 block 1 at 12 steps 1\n",
         );
         let bad = programme(&[(0, skip()), (1, vec![0x22, 2, 0x20])]);
         prints(&input(3, 10, &sheet, &bad), "end 9 block 1 at 3 steps 0\n");

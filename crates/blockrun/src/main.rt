@@ -1,7 +1,9 @@
 // The printing program: reads a rule, a budget and two sheets from standard input, runs them, and prints the answer and the end store.
 ghost use mathlib.Core.Path.{_≡_};
-ghost use Prim.Native.Nat.{_≤_};
+ghost use Prim.Native.Nat.{_*_, _≤_};
 ghost use lib.ListN.{length};
+ghost use Rattle.store.specs.Value.{slotWidth};
+ghost use Rattle.store.specs.Sheet.{mostSlots};
 use printing::Input;
 use store::Answer;
 use store::Opened;
@@ -41,7 +43,7 @@ fn print_slot(slot: u64, owner: u64, v: Value) {
 
 // The first `slots` slots of an output, with their owners from the sheet.
 fn print_slots(sheet: &[u8], out: &[u8], slots: usize)
-    requires { ⌜ slots ≤ 256 ⌝ }
+    requires { ⌜ slots ≤ mostSlots ⌝ }
 {
     let n = (store::number_at(sheet, 0, 1) % 256) as usize;
     let owners = Opened::SIZES + Opened::MASK * n;
@@ -56,22 +58,22 @@ fn print_slots(sheet: &[u8], out: &[u8], slots: usize)
 
 // How many slots the end store has, where the sheet is good.
 fn slots_of(sheet: &[u8]) -> usize
-    ensures { λ r. ⌜ r ≤ 256 ⌝ }
+    ensures { λ r. ⌜ r ≤ mostSlots ⌝ }
 {
     let said = store::number_at(sheet, 1, 2) as usize;
     if said <= Opened::MOST_SLOTS { said } else { 0 }
 }
 
 // Room for the slots of any end store.
-fn room() -> [u8; 1280]
-    ensures { λ r. ⌜ length r ≡ 1280 ⌝ }
+fn room() -> [u8; Opened::MOST_OUTPUT]
+    ensures { λ r. ⌜ length r ≡ slotWidth * mostSlots ⌝ }
 {
-    [0u8; 1280]
+    [0u8; Opened::MOST_OUTPUT]
 }
 
 // Runs the sheets after the rule and the budget into an output of the right size, and prints.
 fn run_into(rule: u8, budget: u32, rest: &[u8], slots: usize, out: &mut [u8])
-    requires { ⌜ slots ≤ 256 ⌝ }
+    requires { ⌜ slots ≤ mostSlots ⌝ }
 {
     let cut = printing::store_length(rest);
     let a = runner::run(&rest[..cut], &rest[cut..], rule, budget, out);

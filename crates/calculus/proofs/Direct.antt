@@ -116,7 +116,7 @@ block a i v =
     record { header = record { region = a; endorsed = false }; command = cmd 0 size (assign (literal (view i)) (literal (again v))) }
 
 abbrev programme : Label → ℕ → Value → List ℕ
-programme a i v = one a size (code i v)
+programme a i v = one a (code i v)
 
 programme-read : (n m : ℕ) (a : Label) (i : ℕ) (v : Value) → n ≤ mostPrincipals → m ≤ mostSlots → a < n → i < m → wellFormed m v ≡ true
     → programmeSheet n m (programme a i v) ≡ ok (block a i v ∷ [])

@@ -22,7 +22,7 @@ use Rattle.calculus.specs.Rules.{rulesOf, judgesViews, judgesRegion, lab
 use Rattle.calculus.specs.Calculus.{Store, inRegion, admit, fetch, eval, authorised, reliable, permit, assignment, counted, written, performed, step, exec, execBody}
 use Rattle.calculus.specs.Blocks.{runBlocks, start}
 use Rattle.calculus.specs.Run.{runProgramme, runOpened, runUnder, run, answerOf, outputOf}
-use Rattle.calculus.specs.Vectors.{blank, int, writes, twoSlots, assign, read, one}
+use Rattle.calculus.specs.Vectors.{blank, int, twoSlots, one, copy}
 use Rattle.calculus.specs.Isolation.{withinReach, StoresAgree, OutputsAgree, unchanged, Replacement, byNumber, FullRun}
 
 -- demand 3 with endorsed blocks let in
@@ -49,7 +49,7 @@ right = twoSlots (int 6) (int 7)
 
 -- slot 1 := slot 0, in region 1, endorsed
 abbrev leaking : List ℕ
-leaking = one 0x81 14 (assign (writes 1) (read 0))
+leaking = one 0x81 copy
 
 abbrev tables : Tables
 tables = tablesOf left

@@ -1,10 +1,10 @@
 -- Source 003, theorem 5, fails over whole runs that have endorsed blocks: an endorsed block stores a write view, and a later block that is
 -- not endorsed writes through it what the adversary chose. An example, by computation. Assumes nothing.
-use Prim.Native.Nat.{ℕ, zero, suc, _+_, _<_}
+use Prim.Native.Nat.{ℕ, zero, suc, _<_}
 use mathlib.Core.Path.{_≡_, refl, sym, ap, _∙_}
 use mathlib.Core.Logic.{⊎-elim}
 use mathlib.Core.Bool.{true, false, true≢false}
-use mathlib.Core.List.{List, _∷_, _++_}
+use mathlib.Core.List.{List, [], _∷_, _++_}
 use native.Mathlib.Omega.{arith}
 use lib.ListN.{getD, length}
 use Rattle.lattice.specs.Tests.{_and_, _or_, _implies_, every, some, find}
@@ -24,7 +24,7 @@ use Rattle.calculus.specs.Rules.{rulesOf, judgesViews, judgesRegion, lab
 use Rattle.calculus.specs.Calculus.{Store, contents, inRegion, admit, fetch, eval, judge, authorised, reliable, permit, assignment, counted, written, performed, step, choose, exec, execBody}
 use Rattle.calculus.specs.Blocks.{runBlocks, start}
 use Rattle.calculus.specs.Run.{FinishedRun, runProgramme, runOpened, runUnder, run, answerOf, outputOf}
-use Rattle.calculus.specs.Vectors.{int, bool, writes, assign, lit, read}
+use Rattle.calculus.specs.Vectors.{int, bool, writes, assign, lit, read, block, sheetOf}
 use Rattle.calculus.specs.Isolation.{withinReach, unchanged, exchanged, Replaced, Replacement}
 use Rattle.calculus.specs.Kept.{Spares}
 use Rattle.calculus.specs.Deputy.{ProtectedSpare, BareBlocksSpare, NoControl, DirectWrite, NoConfusedDeputy}
@@ -64,9 +64,7 @@ abbrev obeys : List ℕ
 obeys = 0x23 ∷ (read 0 ++ through 41 ++ through 42)
 
 abbrev sent : ℕ → List ℕ
-sent x =
-    3 ∷ (length (chooses x) + length stores + length obeys) ∷ 0 ∷ 0 ∷ 0x81 ∷ 1
-    ∷ length (chooses x) ∷ 0 ∷ length stores ∷ 0 ∷ length obeys ∷ 0 ∷ (chooses x ++ stores ++ obeys)
+sent x = sheetOf (block 0 (chooses x) ∷ block 0x81 stores ∷ block 1 obeys ∷ [])
 
 abbrev tables : Tables
 tables = tablesOf sheet

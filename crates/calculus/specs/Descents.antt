@@ -1,11 +1,10 @@
 -- Document 02, N2, the rule ladder: what can change from a rule to a milder one, and with a larger budget. Each example is a programme and a
 -- store as bytes, run twice, with both answers and outputs; docs/LADDER.md has the table. That no other answer changes is said by `Descent`
 -- and `Budgets` (Ladder). Slot 0 is low, of owner 0, and slot 1 is of owner 1, above it. Assumes nothing.
-use Prim.Native.Nat.{ℕ, _+_}
+use Prim.Native.Nat.{ℕ}
 use mathlib.Core.List.{List, [], _∷_, _++_}
-use lib.ListN.{length}
 use Rattle.store.specs.declared.Answer.{Answer}
-use Rattle.calculus.specs.Vectors.{Vector, runs, says, blank, int, bool, writes, twoSlots, opening, assign, lit, read, while, one, two, branches}
+use Rattle.calculus.specs.Vectors.{Vector, runs, says, blank, int, bool, writes, opening, assign, lit, read, while, one, both, copy, raise, keepView, two, branches, branchAt, flagged}
 
 -- a programme over a store, before and after its rule or its budget is changed
 pub record Example : Type 0 where
@@ -39,30 +38,6 @@ under rule rule′ = twice rule 10 rule′ 10
 abbrev pub within : ℕ → ℕ → ℕ → List ℕ → List ℕ → End → End → Example
 within rule budget budget′ = twice rule budget rule budget′
 
--- programmes: one block, and two, of the given regions
-abbrev pub alone : ℕ → List ℕ → List ℕ
-alone region code = one region (length code) code
-
-abbrev pub both : ℕ → List ℕ → ℕ → List ℕ → List ℕ
-both region code region′ code′ =
-    2 ∷ (length code + length code′) ∷ 0 ∷ region ∷ region′ ∷ length code ∷ 0 ∷ length code′ ∷ 0 ∷ (code ++ code′)
-
--- P9's store: slot 0 is true
-abbrev pub flagged : List ℕ
-flagged = twoSlots (bool 1) (int 7)
-
--- slot 1 := slot 0
-abbrev pub copy : List ℕ
-copy = assign (writes 1) (read 0)
-
--- slot 1 := 9
-abbrev pub raise : List ℕ
-raise = assign (writes 1) (lit (int 9))
-
--- slot 0 := write view of slot 1
-abbrev pub keepView : List ℕ
-keepView = assign (writes 0) (lit (writes 1))
-
 -- slot 0 := read through the write view of slot 1, which is no read view
 abbrev pub readThrough : List ℕ
 readThrough = assign (writes 0) (0x11 ∷ lit (writes 1))
@@ -80,17 +55,17 @@ noGuard = 0x24 ∷ (lit (int 5) ++ 0x20 ∷ [])
 unfoldable pub from3to2 : List Example
 from3to2 =
     -- D1, 16 becomes 0: nothing comes after the write, so rule 2 finishes (P9).
-    under 3 2 flagged (alone 1 branches) (refused 16 0 8 1) (finished 1 2 (bool 1 ++ int 41))
+    under 3 2 flagged (one 1 branches) (refused 16 0 branchAt 1) (finished 1 2 (bool 1 ++ int 41))
     -- D2, 16 becomes 13: rule 2 comes to the second block, whose guard is no truth value.
-    ∷ under 3 2 flagged (both 1 branches 1 noGuard) (refused 16 0 8 1) (refused 13 1 0 2)
+    ∷ under 3 2 flagged (both 1 branches 1 noGuard) (refused 16 0 branchAt 1) (refused 13 1 0 2)
     -- D3, 16 becomes 14: rule 2 comes to the second block, of region 0, which writes a slot of owner 1.
-    ∷ under 3 2 flagged (both 1 branches 0 raise) (refused 16 0 8 1) (refused 14 1 0 2)
+    ∷ under 3 2 flagged (both 1 branches 0 raise) (refused 16 0 branchAt 1) (refused 14 1 0 2)
     -- D4, 16 stays: the value is low, and both rules judge the value's label (P4, P3).
     ∷ under 3 2 opening (two 1) (refused 16 1 0 1) (refused 16 1 0 1)
     -- D5, 16 becomes 16 at a later step: rule 2 comes to the second block, which copies a low value up.
-    ∷ under 3 2 flagged (both 1 branches 1 copy) (refused 16 0 8 1) (refused 16 1 0 2)
+    ∷ under 3 2 flagged (both 1 branches 1 copy) (refused 16 0 branchAt 1) (refused 16 1 0 2)
     -- D6, 16 becomes 17: rule 2 comes to the second block, which never ends.
-    ∷ under 3 2 flagged (both 1 branches 1 (while 1)) (refused 16 0 8 1) (refused 17 1 0 10)
+    ∷ under 3 2 flagged (both 1 branches 1 (while 1)) (refused 16 0 branchAt 1) (refused 17 1 0 10)
     ∷ []
 
 -- From 2 to 0. A block of region 1 copies slot 0, which is low, to slot 1. Rule 2 refuses that for the value's label; rule 0 judges no
@@ -112,13 +87,13 @@ from2to0 =
 unfoldable pub from1to0 : List Example
 from1to0 =
     -- D11, 15 becomes 0: the view is only put in a slot, and nothing comes after that, so rule 0 finishes (P8).
-    under 1 0 opening (alone 0 keepView) (refused 15 0 0 0) (finished 1 1 (writes 1 ++ int 7))
+    under 1 0 opening (one 0 keepView) (refused 15 0 0 0) (finished 1 1 (writes 1 ++ int 7))
     -- D12, 15 becomes 13 at the same step: the view is read through, and 15 is judged before its kind is.
-    ∷ under 1 0 opening (alone 0 readThrough) (refused 15 0 0 0) (refused 13 0 0 0)
+    ∷ under 1 0 opening (one 0 readThrough) (refused 15 0 0 0) (refused 13 0 0 0)
     -- D13, 15 becomes 13 at a later step: rule 0 comes to the second block, whose guard is no truth value.
     ∷ under 1 0 opening (both 0 keepView 0 noGuard) (refused 15 0 0 0) (refused 13 1 0 1)
     -- D14, 15 becomes 14 at the same step: slot 1 is written through the view, and rule 0 asks the region (P7, P6).
-    ∷ under 1 0 opening (alone 0 raise) (refused 15 0 0 0) (refused 14 0 0 0)
+    ∷ under 1 0 opening (one 0 raise) (refused 15 0 0 0) (refused 14 0 0 0)
     -- D15, 15 becomes 14 at a later step: the view is put in a slot, and the second block writes slot 1 through it.
     ∷ under 1 0 opening (both 0 keepView 0 writeThrough) (refused 15 0 0 0) (refused 14 1 0 1)
     -- D16, 15 becomes 17: rule 0 comes to the second block, which never ends.
@@ -129,17 +104,17 @@ from1to0 =
 unfoldable pub larger : List Example
 larger =
     -- D17, 17 becomes 0: the only step is allowed, and the run finishes (P11).
-    within 0 0 1 opening (alone 0 (while 0)) (refused 17 0 0 0) (finished 1 1 (int 5 ++ int 7))
+    within 0 0 1 opening (one 0 (while 0)) (refused 17 0 0 0) (finished 1 1 (int 5 ++ int 7))
     -- D18, 17 becomes 13: the step's guard is no truth value.
-    ∷ within 0 0 10 opening (alone 0 noGuard) (refused 17 0 0 0) (refused 13 0 0 0)
+    ∷ within 0 0 10 opening (one 0 noGuard) (refused 17 0 0 0) (refused 13 0 0 0)
     -- D19, 17 becomes 14: the step writes a slot of owner 1 for region 0 (P6).
-    ∷ within 0 0 10 opening (alone 0 raise) (refused 17 0 0 0) (refused 14 0 0 0)
+    ∷ within 0 0 10 opening (one 0 raise) (refused 17 0 0 0) (refused 14 0 0 0)
     -- D20, 17 becomes 15, under rule 1: the step meets a write view that its region may not have (P7).
-    ∷ within 1 0 10 opening (alone 0 raise) (refused 17 0 0 0) (refused 15 0 0 0)
+    ∷ within 1 0 10 opening (one 0 raise) (refused 17 0 0 0) (refused 15 0 0 0)
     -- D21, 17 becomes 16, under rule 3: the guard is judged, and then the write that stands in its branch (P9).
-    ∷ within 3 1 10 flagged (alone 1 branches) (refused 17 0 8 1) (refused 16 0 8 1)
+    ∷ within 3 1 10 flagged (one 1 branches) (refused 17 0 branchAt 1) (refused 16 0 branchAt 1)
     -- D22, 17 stays, with more steps: the loop never ends (P12).
-    ∷ within 0 3 10 opening (alone 0 (while 1)) (refused 17 0 0 3) (refused 17 0 0 10)
+    ∷ within 0 3 10 opening (one 0 (while 1)) (refused 17 0 0 3) (refused 17 0 0 10)
     ∷ []
 
 -- Rule 1 stands in no order with 2, nor with 3: each finishes a run that the other refuses.
@@ -148,11 +123,11 @@ unordered =
     -- D23, 1 finishes and 2 refuses: no block meets a write view that it may not have, and the value that goes up is low (P2, P3).
     under 1 2 opening (two 1) (finished 2 2 (int 42 ++ int 42)) (refused 16 1 0 1)
     -- D24, 2 finishes and 1 refuses: a write view of slot 1 is put in the block's own slot and not written through (P8's programme).
-    ∷ under 2 1 opening (alone 0 keepView) (finished 1 1 (writes 1 ++ int 7)) (refused 15 0 0 0)
+    ∷ under 2 1 opening (one 0 keepView) (finished 1 1 (writes 1 ++ int 7)) (refused 15 0 0 0)
     -- D25, 1 finishes and 3 refuses: D23's programme (P2, P4).
     ∷ under 1 3 opening (two 1) (finished 2 2 (int 42 ++ int 42)) (refused 16 1 0 1)
     -- D26, 3 finishes and 1 refuses: D24's programme.
-    ∷ under 3 1 opening (alone 0 keepView) (finished 1 1 (writes 1 ++ int 7)) (refused 15 0 0 0)
+    ∷ under 3 1 opening (one 0 keepView) (finished 1 1 (writes 1 ++ int 7)) (refused 15 0 0 0)
     ∷ []
 
 abbrev pub descents : List Example

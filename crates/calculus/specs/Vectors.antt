@@ -1,6 +1,8 @@
--- Document 01, "Finds from the test trench": P1 to P12 as bytes, each with its answer and its output. Assumes nothing.
-use Prim.Native.Nat.{ℕ}
-use mathlib.Core.List.{List, [], _∷_, _++_}
+-- Document 01, "Finds from the test trench": P1 to P12 as bytes, each with its answer and its output; "01's finds are worked again" (document 02,
+-- N3). Assumes nothing.
+use Prim.Native.Nat.{ℕ, _*_, _/_, _%_}
+use mathlib.Core.List.{List, [], _∷_, _++_, map}
+use lib.ListN.{length, replicate}
 use Rattle.store.specs.declared.Answer.{Answer}
 
 pub record Vector : Type 0 where
@@ -11,25 +13,30 @@ pub record Vector : Type 0 where
   pub answer : Answer
   pub output : List ℕ
 
--- what the output slice holds before each run
+-- what the output slice holds before each run: "Output is 9 × m bytes" (document 02, N3), here of two slots
 abbrev pub blank : List ℕ
-blank = 0xAA ∷ 0xAA ∷ 0xAA ∷ 0xAA ∷ 0xAA ∷ 0xAA ∷ 0xAA ∷ 0xAA ∷ 0xAA ∷ 0xAA ∷ []
+blank = replicate (9 * 2) 0xAA
 
 abbrev pub says : ℕ → ℕ → ℕ → ℕ → Answer
 says number block offset steps = record { number = number; block = block; offset = offset; steps = steps }
 
--- values: an integer, a truth value, a read view, a write view
+-- "A payload becomes 8 bytes and a value 9" (document 02, N3): a value whose payload is below 256. Its bytes are written out, so that the
+-- examples hold the definitions to that width.
+abbrev pub value : ℕ → ℕ → List ℕ
+value kind x = kind ∷ x ∷ 0 ∷ 0 ∷ 0 ∷ 0 ∷ 0 ∷ 0 ∷ 0 ∷ []
+
+-- an integer, a truth value, a read view, a write view
 abbrev pub int : ℕ → List ℕ
-int x = 0 ∷ x ∷ 0 ∷ 0 ∷ 0 ∷ []
+int = value 0
 
 abbrev pub bool : ℕ → List ℕ
-bool x = 1 ∷ x ∷ 0 ∷ 0 ∷ 0 ∷ []
+bool = value 1
 
 abbrev pub reads : ℕ → List ℕ
-reads i = 2 ∷ i ∷ 0 ∷ 0 ∷ 0 ∷ []
+reads = value 2
 
 abbrev pub writes : ℕ → List ℕ
-writes i = 3 ∷ i ∷ 0 ∷ 0 ∷ 0 ∷ []
+writes = value 3
 
 -- two slots that hold the given values, of owners 0 and 1, where principal 1 stands above principal 0
 abbrev pub twoSlots : List ℕ → List ℕ → List ℕ
@@ -51,20 +58,67 @@ read i = 0x11 ∷ 0x10 ∷ reads i
 abbrev pub while : ℕ → List ℕ
 while guard = 0x24 ∷ 0x10 ∷ (bool guard ++ 0x20 ∷ [])
 
--- programmes: none, one block of the given region and length, and the two blocks of document 01's example
+-- a block: its region byte and its code
+pub record Sent : Type 0 where
+  pub region : ℕ
+  pub code : List ℕ
+
+abbrev pub block : ℕ → List ℕ → Sent
+block region code = record { region = region; code = code }
+
+-- a number of two bytes
+abbrev pub twoBytes : ℕ → List ℕ
+twoBytes x = x % 256 ∷ x / 256 ∷ []
+
+abbrev pub lengths : List Sent → List ℕ
+lengths [] = []
+lengths (b ∷ bs) = twoBytes (length (b .code)) ++ lengths bs
+
+abbrev pub codes : List Sent → List ℕ
+codes [] = []
+codes (b ∷ bs) = b .code ++ codes bs
+
+-- the programme sheet of some blocks
+abbrev pub sheetOf : List Sent → List ℕ
+sheetOf bs = length bs ∷ (twoBytes (length (codes bs)) ++ map (λ b. b .region) bs ++ lengths bs ++ codes bs)
+
+-- programmes: no block, one, and two
 abbrev pub none : List ℕ
-none = 0 ∷ 0 ∷ 0 ∷ []
+none = sheetOf []
 
-abbrev pub one : ℕ → ℕ → List ℕ → List ℕ
-one region size code = 1 ∷ size ∷ 0 ∷ region ∷ size ∷ 0 ∷ code
+abbrev pub one : ℕ → List ℕ → List ℕ
+one region code = sheetOf (block region code ∷ [])
 
--- slot 0 := 42 in region 0; slot 1 := slot 0 in the region given
+abbrev pub both : ℕ → List ℕ → ℕ → List ℕ → List ℕ
+both region code region′ code′ = sheetOf (block region code ∷ block region′ code′ ∷ [])
+
+-- slot 1 := slot 0
+abbrev pub copy : List ℕ
+copy = assign (writes 1) (read 0)
+
+-- slot 1 := 9
+abbrev pub raise : List ℕ
+raise = assign (writes 1) (lit (int 9))
+
+-- slot 0 := write view of slot 1
+abbrev pub keepView : List ℕ
+keepView = assign (writes 0) (lit (writes 1))
+
+-- document 01's example: slot 0 := 42 in region 0; slot 1 := slot 0 in the region given
 abbrev pub two : ℕ → List ℕ
-two region = 2 ∷ 0x1B ∷ 0 ∷ 0 ∷ region ∷ 0x0D ∷ 0 ∷ 0x0E ∷ 0 ∷ (assign (writes 0) (lit (int 42)) ++ assign (writes 1) (read 0))
+two region = both 0 (assign (writes 0) (lit (int 42))) region copy
 
--- if slot 0 then slot 1 := 41 else slot 1 := 42
+-- P9: if slot 0 then slot 1 := 41 else slot 1 := 42
 abbrev pub branches : List ℕ
 branches = 0x23 ∷ (read 0 ++ assign (writes 1) (lit (int 41)) ++ assign (writes 1) (lit (int 42)))
+
+-- "the branch of P9 then stands at offset 12" (document 02, N3)
+abbrev pub branchAt : ℕ
+branchAt = 12
+
+-- P9's store: slot 0 is true
+abbrev pub flagged : List ℕ
+flagged = twoSlots (bool 1) (int 7)
 
 abbrev pub runs : ℕ → ℕ → List ℕ → List ℕ → Answer → List ℕ → Vector
 runs rule budget store programme answer output =
@@ -80,20 +134,20 @@ vectors =
     -- "P5: second region 81, rule 3 finishes."
     ∷ runs 3 10 opening (two 0x81) (says 0 2 0 2) (int 42 ++ int 42)
     -- "P6, P7: only block, region 00, slot 1 := 9: rule 0 gives 14, rule 1 gives 15."
-    ∷ runs 0 10 opening (one 0 13 (assign (writes 1) (lit (int 9)))) (says 14 0 0 0) blank
-    ∷ runs 1 10 opening (one 0 13 (assign (writes 1) (lit (int 9)))) (says 15 0 0 0) blank
+    ∷ runs 0 10 opening (one 0 raise) (says 14 0 0 0) blank
+    ∷ runs 1 10 opening (one 0 raise) (says 15 0 0 0) blank
     -- "P8: region 00, slot 0 := write view of slot 1: rule 0 finishes; rule 1 gives 15."
-    ∷ runs 0 10 opening (one 0 13 (assign (writes 0) (lit (writes 1)))) (says 0 1 0 1) (writes 1 ++ int 7)
-    ∷ runs 1 10 opening (one 0 13 (assign (writes 0) (lit (writes 1)))) (says 15 0 0 0) blank
+    ∷ runs 0 10 opening (one 0 keepView) (says 0 1 0 1) (writes 1 ++ int 7)
+    ∷ runs 1 10 opening (one 0 keepView) (says 15 0 0 0) blank
     -- "P9: slot 0 true, region 01, if read of slot 0 then slot 1 := 41 else slot 1 := 42: rule 2 finishes with 41, steps 2; rule 3
-    -- gives 16 at offset 8, steps 1."
-    ∷ runs 2 10 (twoSlots (bool 1) (int 7)) (one 1 34 branches) (says 0 1 0 2) (bool 1 ++ int 41)
-    ∷ runs 3 10 (twoSlots (bool 1) (int 7)) (one 1 34 branches) (says 16 0 8 1) blank
+    -- gives 16 at offset 8, steps 1"; with payloads of eight bytes at offset 12.
+    ∷ runs 2 10 flagged (one 1 branches) (says 0 1 0 2) (bool 1 ++ int 41)
+    ∷ runs 3 10 flagged (one 1 branches) (says 16 0 branchAt 1) blank
     -- "P10: k = 0, budget 0: finishes."
     ∷ runs 0 0 opening none (says 0 0 0 0) (int 5 ++ int 7)
     -- "P11: while false do skip: budget 1 finishes, budget 0 gives 17."
-    ∷ runs 0 1 opening (one 0 8 (while 0)) (says 0 1 0 1) (int 5 ++ int 7)
-    ∷ runs 0 0 opening (one 0 8 (while 0)) (says 17 0 0 0) blank
+    ∷ runs 0 1 opening (one 0 (while 0)) (says 0 1 0 1) (int 5 ++ int 7)
+    ∷ runs 0 0 opening (one 0 (while 0)) (says 17 0 0 0) blank
     -- "P12: while true do skip, budget 3: 17, steps 3."
-    ∷ runs 0 3 opening (one 0 8 (while 1)) (says 17 0 0 3) blank
+    ∷ runs 0 3 opening (one 0 (while 1)) (says 17 0 0 3) blank
     ∷ []

@@ -6,12 +6,14 @@ use mathlib.Core.List.{List}
 use native.Mathlib.Omega.{arith}
 use lib.ListN.{length, getD}
 use lib.Dec.{leb}
-use borrow.Author.Tests.{lt-ltb, le-ltb, eq-eqb, ne-eqb}
+use borrow.Author.Tests.{lt-ltb, le-ltb, eq-eqb, ne-eqb, leb-true, leb-false}
 use Rattle.lattice.specs.Tests.{_and_}
+use Rattle.lattice.proofs.Tests.{and-r}
 use Rattle.store.specs.declared.Value.{Value}
-use Rattle.store.specs.Sheet.{sizesWidth, nOf, mOf, valueWidthIn}
+use Rattle.store.specs.Value.{payloadWidth, valueWidth, integer}
+use Rattle.store.specs.Sheet.{sizesWidth, nOf, mOf, valuesAt, valueWidthIn}
 use Rattle.store.proofs.Numbers.{number-lt}
-use Rattle.printing.specs.Input.{storeLength, negative, magnitude}
+use Rattle.printing.specs.Input.{storeLength, leastNegative, negative, magnitude}
 
 -- sizes of one and two bytes
 pub sizes-small : (s : List ℕ) → ((i : ℕ) → getD s i 0 < 256) → (n m : ℕ) → n ≡ nOf s → m ≡ mOf s → (n < 256) × (m < 65536)
@@ -23,35 +25,40 @@ module _ (s : List ℕ) where
   no-sizes h = rw (storeLength, lt-ltb (length s) sizesWidth h)
 
   module _ (h : sizesWidth ≤ length s) (n m : ℕ) (p : n ≡ nOf s) (q : m ≡ mOf s) where
-    said : min (length s) (3 + 4 * n + m + 5 * m) ≡ storeLength s
+    -- what the sizes say
+    abbrev said : ℕ
+    said = valuesAt n m + valueWidth * m
+
+    shorter : min (length s) said ≡ storeLength s
     unfolding storeLength valueWidthIn
-    said = rw (storeLength, le-ltb (length s) sizesWidth h, p, q)
+    shorter = rw (storeLength, le-ltb (length s) sizesWidth h, p, q)
 
-    pub as-said : 3 + 4 * n + m + 5 * m < length s → 3 + 4 * n + m + 5 * m ≡ storeLength s
-    as-said l = let e : 3 + 4 * n + m + 5 * m ≡ min (length s) (3 + 4 * n + m + 5 * m) = omega arith in e ∙ said
+    pub as-said : said < length s → said ≡ storeLength s
+    as-said l = let e : said ≡ min (length s) said = omega arith in e ∙ shorter
 
-    pub as-there : length s ≤ 3 + 4 * n + m + 5 * m → length s ≡ storeLength s
-    as-there l = let e : length s ≡ min (length s) (3 + 4 * n + m + 5 * m) = omega arith in e ∙ said
+    pub as-there : length s ≤ said → length s ≡ storeLength s
+    as-there l = let e : length s ≡ min (length s) said = omega arith in e ∙ shorter
 
 module _ (v : Value) where
-  pub signed : v .kind ≡ 0 → leb 0x8000_0000 (v .payload) ≡ negative v
+  pub signed : v .kind ≡ integer → leb leastNegative (v .payload) ≡ negative v
   unfolding negative _and_
-  signed h = rw (eq-eqb (v .kind) 0 h)
+  signed h = rw (eq-eqb (v .kind) integer h)
 
-  pub unsigned : (v .kind ≡ 0 → ⊥) → false ≡ negative v
+  pub unsigned : (v .kind ≡ integer → ⊥) → false ≡ negative v
   unfolding negative _and_
-  unsigned h = rw (ne-eqb (v .kind) 0 h)
+  unsigned h = rw (ne-eqb (v .kind) integer h)
 
   pub plain : negative v ≡ false → v .payload ≡ magnitude v
   unfolding magnitude
   plain h = rw (magnitude, h)
 
-  flip : negative v ≡ true → 2 ^ 32 - v .payload ≡ magnitude v
+  pub flipped : negative v ≡ true → 2 ^ (8 * payloadWidth) - v .payload ≡ magnitude v
   unfolding magnitude
-  flip h = rw (magnitude, h)
+  flipped h = rw (magnitude, h)
 
-  pub flipped : negative v ≡ true → v .payload ≤ 0xFFFF_FFFF → 0xFFFF_FFFF - v .payload + 1 ≡ magnitude v
-  flipped h l = let e : 0xFFFF_FFFF - v .payload + 1 ≡ 2 ^ 32 - v .payload = omega arith in e ∙ flip h
+  pub from-least : negative v ≡ true → leastNegative ≤ v .payload
+  unfolding negative
+  from-least h = leb-true _ _ (and-r _ _ h)
 
-  pub too-large : negative v ≡ true → 0xFFFF_FFFF < v .payload → 0 ≡ magnitude v
-  too-large h l = let e : 0 ≡ 2 ^ 32 - v .payload = omega arith in e ∙ flip h
+  pub below-least : v .kind ≡ integer → negative v ≡ false → v .payload < leastNegative
+  below-least k h = leb-false _ _ (signed k ∙ h)

@@ -14,9 +14,13 @@ unfoldable pub storeLength : List ℕ → ℕ
 storeLength s =
     elim (ltb (length s) sizesWidth) [ true ↦ length s | false ↦ min (length s) (sheetLength storeForm (nOf s) (mOf s)) ]
 
+-- "Integers are signed 64-bit" (document 02, N3), two's complement: the payloads of negative ones are those from here on
+abbrev pub leastNegative : ℕ
+leastNegative = 2 ^ (8 * payloadWidth - 1)
+
 -- "the payload is one number, with a minus sign if it is a negative integer"
 unfoldable pub negative : Value → Bool
-negative v = is integer v and leb (2 ^ (8 * payloadWidth - 1)) (v .payload)
+negative v = is integer v and leb leastNegative (v .payload)
 
 -- the number after the sign
 unfoldable pub magnitude : Value → ℕ

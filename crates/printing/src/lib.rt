@@ -17,9 +17,9 @@ impl Input {
     pub const HEAD: usize = 5;
 
     // The least payload of a negative integer, and the largest payload.
-    pub const SIGN: u64 = 0x8000_0000;
+    pub const SIGN: u64 = 1 << (8 * Value::PAYLOAD - 1);
 
-    pub const LARGEST: u64 = 0xFFFF_FFFF;
+    pub const LARGEST: u64 = Input::SIGN - 1 + Input::SIGN;
 }
 
 // How many of the bytes after the rule and the budget are the store sheet.
@@ -54,12 +54,9 @@ pub fn magnitude_of(v: Value) -> u64
     ensures { λ r. ⌜ r ≡ magnitude v ⌝ }
 {
     let payload = v.payload;
-    if !is_negative(v) {
-        return payload;
-    }
-    if payload <= Input::LARGEST {
+    if is_negative(v) {
         Input::LARGEST - payload + 1
     } else {
-        0
+        payload
     }
 }

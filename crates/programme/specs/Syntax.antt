@@ -4,7 +4,7 @@ use mathlib.Core.List.{List}
 use lib.ListN.{set}
 use Rattle.store.specs.declared.Value.{Value}
 
--- "An expression is 10 and a value of five bytes, or 11 (read) and an expression."
+-- "An expression is 10 and a value .., or 11 (read) and an expression."
 pub data Expr : Type 0 where
   literal : Value → Expr
   read : Expr → Expr

@@ -42,3 +42,10 @@ unfolding numberAt
 number-past s zero at h = refl
 number-past s (suc width) at h =
     omega (arith, byte-past s at h, number-past s width (at + 1) (omega arith))
+
+-- so those of a number that runs past the end are enough to read it
+pub number-cut : (s : List ℕ) (width there at : ℕ) → length s ≤ at + there → there ≤ width → numberAt width s at ≡ numberAt there s at
+unfolding numberAt
+number-cut s width zero at h l = number-past s width at (omega arith)
+number-cut s zero (suc there) at h l = absurd (omega arith)
+number-cut s (suc width) (suc there) at h l = rw (number-cut s width there (at + 1) (omega arith) (omega arith))

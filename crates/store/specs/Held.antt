@@ -62,7 +62,7 @@ unfoldable pub rowsBytes : List (List ℕ) → ℕ → ℕ → List ℕ
 rowsBytes held i zero = []
 rowsBytes held i (suc n) = rowBytes (getD held i []) ++ rowsBytes held (i + 1) n
 
--- "12 output not 5 × m bytes"
+-- "12 output not 5 × m bytes", and since document 02, N3: "Output is 9 × m bytes."
 unfoldable pub roomChecked : ℕ → ℕ → Result ℕ (Unit {0})
 roomChecked m room = require (leb m mostSlots and eqb room (slotWidth * m)) 12 (ok tt)
 

@@ -8,9 +8,10 @@ use Rattle.lattice.specs.Tests.{_and_, _or_}
 use Rattle.store.specs.declared.Value.{Value}
 use Rattle.store.specs.Bytes.{numberAt, numberBytes}
 
--- "A value is a kind byte and a 4-byte payload": `Value` is the struct of src/lib.rt
+-- "A payload becomes 8 bytes and a value 9, in sheets, code and output." (document 02, N3) "A value is a kind byte and a .. payload":
+-- `Value` is the struct of src/lib.rt
 abbrev pub payloadWidth : ℕ
-payloadWidth = 4
+payloadWidth = 8
 
 abbrev pub valueWidth : ℕ
 valueWidth = suc payloadWidth

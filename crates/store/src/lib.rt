@@ -4,7 +4,7 @@ ghost use Prim.Native.Nat.{_<_, _≤_, _+_, _*_, min};
 ghost use lib.ListN.{length, getD};
 ghost use lib.Seq.{sets};
 ghost use Rattle.store.specs.Bytes.{numberAt, numberBytes};
-ghost use Rattle.store.specs.Value.{valueAt, wellFormed, slotWidth};
+ghost use Rattle.store.specs.Value.{valueWidth, valueAt, wellFormed, slotWidth};
 ghost use Rattle.lattice.specs.Order.{mostPrincipals};
 ghost use Rattle.store.specs.Result.{inTurn};
 ghost use Rattle.store.specs.Sheet.{formOf, nOf, sizesAllowed, orderOf, slotChecked, bodyChecked, sheetChecked, storeSheet, tableSheet, tablesOf, openingOf};
@@ -35,7 +35,7 @@ impl Value {
     // The kinds are the numbers below this one.
     pub const KINDS: u8 = 4;
     // The bytes of a payload.
-    pub const PAYLOAD: usize = 4;
+    pub const PAYLOAD: usize = 8;
     // The bytes of a value.
     pub const WIDTH: usize = 1 + Value::PAYLOAD;
 }
@@ -52,6 +52,8 @@ impl Opened {
     pub const MOST_SLOTS: usize = 256;
     // The bytes of a slot in the output.
     pub const SLOT_WIDTH: usize = Value::WIDTH;
+    // The most bytes that an output may have.
+    pub const MOST_OUTPUT: usize = Opened::SLOT_WIDTH * Opened::MOST_SLOTS;
     // The bytes of the sizes at a sheet's start.
     pub const SIZES: usize = 3;
     // The bytes of a mask.
@@ -104,13 +106,16 @@ fn number_in(s: &[u8], at: usize, width: usize) -> u64
     sum
 }
 
-// The value at `at`, whose bytes may run past the end.
+// The value at `at`, whose bytes run past the end: only those that are there are read.
 fn cut_value_at(s: &[u8], at: usize) -> Value
+    requires { ⌜ length (now s) < at + valueWidth ⌝ }
     ensures { λ r. ⌜ r ≡ valueAt (now (s .entry)) at ⌝ }
 {
-    if at < s.len() {
+    let size = s.len();
+    if at < size {
         let kind = s[at];
-        let payload = number_at(s, at + 1, Value::PAYLOAD);
+        let from = at + 1;
+        let payload = number_in(s, from, size - from);
         Value { kind, payload }
     } else {
         Value {

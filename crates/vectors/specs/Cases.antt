@@ -1,12 +1,14 @@
 -- A case of the list that the program plays. It starts with 16 bytes: the mark `case` (4 bytes), the length of its name (1), the rule (1),
 -- the budget (4), and the lengths of output, store sheet and programme sheet (2 each), lowest byte first. Then stand the name and the two
 -- sheets. Assumes nothing.
-use Prim.Native.Nat.{ℕ, _+_, _≤_}
+use Prim.Native.Nat.{ℕ, _+_, _*_, _≤_}
 use mathlib.Core.Bool.{Bool}
 use mathlib.Core.List.{List}
 use lib.ListN.{getD}
 use lib.Dec.{eqb}
 use Rattle.store.specs.Bytes.{numberAt}
+use Rattle.store.specs.Value.{slotWidth}
+use Rattle.store.specs.Sheet.{mostSlots}
 use Rattle.vectors.specs.declared.Head.{Head}
 
 -- the bytes of `case`, as a number
@@ -27,8 +29,9 @@ headOf s =
       programme = numberAt 2 s 14;
     }
 
+-- a slot more than any end store has
 abbrev pub mostOutput : ℕ
-mostOutput = 2048
+mostOutput = slotWidth * (mostSlots + 1)
 
 abbrev pub mostBody : ℕ
 mostBody = 32768

@@ -5,7 +5,7 @@ ghost use mathlib.Core.Path.{_≡_};
 ghost use mathlib.Core.Bool.{true, false};
 ghost use Prim.Native.Nat.{_+_, _≤_};
 ghost use lib.ListN.{length};
-ghost use Rattle.vectors.specs.Cases.{headOf, marked, Fits};
+ghost use Rattle.vectors.specs.Cases.{headOf, marked, mostOutput, mostBody, Fits};
 use store::Answer;
 use store::Opened;
 
@@ -26,8 +26,8 @@ impl Head {
     const COUNT: usize = 2;
     // The word that each case starts with.
     const MARK: u64 = 0x6573_6163;
-    // The most bytes of an output, and of a name and two sheets.
-    const MOST_OUTPUT: usize = 2048;
+    // The most bytes of an output, a slot more than any end store has; and of a name and two sheets.
+    const MOST_OUTPUT: usize = Opened::MOST_OUTPUT + Opened::SLOT_WIDTH;
 
     const MOST_BODY: usize = 32768;
 }
@@ -73,10 +73,10 @@ fn print_bytes(out: &[u8]) {
 }
 
 // What a buffer holds that is lent to a run.
-fn room() -> [u8; 2048]
-    ensures { λ r. ⌜ length r ≡ 2048 ⌝ }
+fn room() -> [u8; Head::MOST_OUTPUT]
+    ensures { λ r. ⌜ length r ≡ mostOutput ⌝ }
 {
-    [0xEEu8; 2048]
+    [0xEEu8; Head::MOST_OUTPUT]
 }
 
 // A finished run's output; of a refused one, whether it still holds what it held when it was lent.
@@ -170,10 +170,10 @@ fn fits(h: Head) -> bool
 }
 
 // Room for the name and the sheets of any case.
-fn body_room() -> [u8; 32768]
-    ensures { λ r. ⌜ length r ≡ 32768 ⌝ }
+fn body_room() -> [u8; Head::MOST_BODY]
+    ensures { λ r. ⌜ length r ≡ mostBody ⌝ }
 {
-    [0u8; 32768]
+    [0u8; Head::MOST_BODY]
 }
 
 // Fills `body` with a case's name and sheets and plays it; answers whether they were there.

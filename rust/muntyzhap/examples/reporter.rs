@@ -8,27 +8,31 @@ mod laboratory;
 use laboratory::{print_slots, CUSTOMER, LABORATORY, ORDER};
 use muntyzhap::code::{assign, literal, read};
 use muntyzhap::sheet::{output_bytes, programme_sheet, store_sheet, Block, Slot};
-use muntyzhap::{run, Refusal, Rule, Value};
+use muntyzhap::{run, Integer, Refusal, Rule, Value};
 
-/// The customer's slot, and the laboratory's.
+/// The customer's sample.
 const SAMPLE: u8 = 0;
+/// The laboratory's report of the sample. It also has a blank, next to it.
 const REPORT: u8 = 1;
 const BUDGET: u32 = 10;
 
+/// The sample's ratio, 0.815042637915, scaled by 10 to the 12th.
+const RATIO: Integer = 815_042_637_915;
+/// What stands for a ratio that is not measured.
+const NOT_MEASURED: Integer = Integer::MIN;
+
 fn store() -> Vec<u8> {
-    let sample = Slot {
-        owner: CUSTOMER,
-        value: Value::Integer(5),
+    let not_measured = |owner| Slot {
+        owner,
+        value: Value::Integer(NOT_MEASURED),
     };
-    let report = Slot {
-        owner: LABORATORY,
-        value: Value::Integer(7),
-    };
-    store_sheet(&ORDER, &[sample, report])
+    let (sample, report) = (not_measured(CUSTOMER), not_measured(LABORATORY));
+    let blank = not_measured(LABORATORY);
+    store_sheet(&ORDER, &[sample, report, blank])
 }
 
 fn programme() -> Vec<u8> {
-    let measured = assign(SAMPLE, literal(Value::Integer(42)));
+    let measured = assign(SAMPLE, literal(Value::Integer(RATIO)));
     let reported = assign(REPORT, read(SAMPLE));
     programme_sheet(&[
         Block::new(CUSTOMER, measured),

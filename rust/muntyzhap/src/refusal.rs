@@ -189,7 +189,7 @@ impl Refusal {
             Refusal::Arguments => {
                 "the rule must be 0, 1, 2, 3 or 255, and the budget at most 1,000,000 steps"
             }
-            Refusal::OutputLength => "the output must have 5 bytes for each slot of the store",
+            Refusal::OutputLength => "the output must have 9 bytes for each slot of the store",
             _ => self.meaning_in_run(),
         }
     }

@@ -2,8 +2,9 @@
 
 use std::fmt::{self, Display, Formatter};
 
-/// The integers of a payload. A payload is as wide as they are.
-pub type Integer = i32;
+/// The integers of a payload: "Integers are signed 64-bit." A payload is as
+/// wide as they are, so its width stands here alone.
+pub type Integer = i64;
 
 /// What a slot holds.
 #[derive(Debug, Clone, Copy, PartialEq, Eq)]
@@ -76,14 +77,18 @@ impl Display for Value {
 mod tests {
     use super::*;
 
+    /// "A payload becomes 8 bytes and a value 9", the lowest byte first.
     #[test]
-    fn values_stand_in_bytes_as_document_01_has_them() {
+    fn values_stand_in_bytes_as_the_documents_have_them() {
+        let (minus_two, least) = (Value::Integer(-2), Value::Integer(Integer::MIN));
         let known = [
-            (Value::Integer(-2), [0, 0xFE, 0xFF, 0xFF, 0xFF]),
-            (Value::Truth(false), [1, 0, 0, 0, 0]),
-            (Value::Truth(true), [1, 1, 0, 0, 0]),
-            (Value::ReadView(7), [2, 7, 0, 0, 0]),
-            (Value::WriteView(255), [3, 255, 0, 0, 0]),
+            (minus_two, [0, 254, 255, 255, 255, 255, 255, 255, 255]),
+            (least, [0, 0, 0, 0, 0, 0, 0, 0, 128]),
+            (Value::Integer(1 << 32), [0, 0, 0, 0, 0, 1, 0, 0, 0]),
+            (Value::Truth(false), [1, 0, 0, 0, 0, 0, 0, 0, 0]),
+            (Value::Truth(true), [1, 1, 0, 0, 0, 0, 0, 0, 0]),
+            (Value::ReadView(7), [2, 7, 0, 0, 0, 0, 0, 0, 0]),
+            (Value::WriteView(255), [3, 255, 0, 0, 0, 0, 0, 0, 0]),
         ];
         for (value, bytes) in known {
             assert_eq!(value.to_bytes(), bytes);
@@ -92,18 +97,40 @@ mod tests {
     }
 
     #[test]
-    fn ill_formed_bytes_are_no_value() {
-        let ill_formed: [&[u8]; 7] = [
-            &[],
-            &[0, 1, 2, 3],
-            &[0, 1, 2, 3, 4, 5],
-            &[1, 2, 0, 0, 0],
-            &[2, 0, 1, 0, 0],
-            &[3, 0, 0, 0, 0x80],
-            &[4, 0, 0, 0, 0],
-        ];
-        for bytes in ill_formed {
-            assert_eq!(Value::from_bytes(bytes), None, "{bytes:?}");
+    fn every_integer_comes_back() {
+        let ends = [Integer::MIN, Integer::MIN + 1, -1, 0, 1, Integer::MAX];
+        for value in ends.map(Value::Integer) {
+            assert_eq!(Value::from_bytes(&value.to_bytes()), Some(value));
         }
+    }
+
+    #[test]
+    fn bytes_that_are_too_few_or_too_many_are_no_value() {
+        for length in 0..2 * Value::BYTES {
+            let value = (length == Value::BYTES).then_some(Value::Integer(0));
+            assert_eq!(Value::from_bytes(&vec![0; length]), value, "{length}");
+        }
+    }
+
+    /// Of truth values and views every byte of the payload counts.
+    #[test]
+    fn ill_formed_bytes_are_no_value() {
+        for value in [
+            Value::Truth(true),
+            Value::ReadView(0),
+            Value::WriteView(255),
+        ] {
+            for place in 2..Value::BYTES {
+                let mut bytes = value.to_bytes();
+                bytes[place] = 0x80;
+                assert_eq!(Value::from_bytes(&bytes), None, "{bytes:?}");
+            }
+        }
+        let mut neither = Value::Truth(true).to_bytes();
+        neither[1] = 2;
+        assert_eq!(Value::from_bytes(&neither), None);
+        let mut unknown = Value::WriteView(0).to_bytes();
+        unknown[0] += 1;
+        assert_eq!(Value::from_bytes(&unknown), None);
     }
 }

@@ -1,4 +1,4 @@
-//! The wrapped calls, by what document 01 says of them.
+//! The wrapped calls, by what documents 01 and 02 say of them.
 
 use muntyzhap::code::{
     assign, assignment, if_command, literal, read, reads, sequence, skip, while_command, Code,
@@ -9,8 +9,8 @@ use muntyzhap::sheet::{
     MOST_CODE, MOST_PRINCIPALS, MOST_SLOTS,
 };
 use muntyzhap::{
-    check_programme, check_store, check_table, raw, run, Finished, Place, Refusal, Rule, Stop,
-    Value, MOST_BUDGET,
+    check_programme, check_store, check_table, raw, run, Finished, Integer, Place, Refusal, Rule,
+    Stop, Value, MOST_BUDGET,
 };
 
 const LOW: u8 = 0;
@@ -18,21 +18,28 @@ const HIGH: u8 = 1;
 /// Principal 1 stands above principal 0.
 const MASKS: [u32; 2] = [0b01, 0b11];
 const UNTOUCHED: u8 = 0xA5;
+/// The output's bytes for a store of two slots: "Output is 9 × m bytes."
+const OUTPUT: usize = 2 * Value::BYTES;
 
-/// Document 01's store: one slot of each principal, with the integers 5 and 7.
-fn slots() -> [Slot; 2] {
+/// One slot of each principal, with these integers.
+fn slots_of(integers: [Integer; 2]) -> [Slot; 2] {
     let slot = |owner, integer| Slot {
         owner,
         value: Value::Integer(integer),
     };
-    [slot(LOW, 5), slot(HIGH, 7)]
+    [slot(LOW, integers[0]), slot(HIGH, integers[1])]
+}
+
+/// Document 01's store: one slot of each principal, with the integers 5 and 7.
+fn slots() -> [Slot; 2] {
+    slots_of([5, 7])
 }
 
 fn store() -> Vec<u8> {
     store_sheet(&MASKS, &slots())
 }
 
-fn integer(integer: i32) -> Code {
+fn integer(integer: Integer) -> Code {
     literal(Value::Integer(integer))
 }
 
@@ -44,13 +51,18 @@ fn programme_of(region: u8, code: Code) -> Vec<u8> {
     programme_sheet(&[Block::new(region, code)])
 }
 
-/// Document 01's programme: slot 0 := 42 by the low principal, then slot 1 :=
-/// slot 0 by the high one.
-fn two_blocks() -> Vec<u8> {
+/// Slot 0 := an integer by the low principal, then slot 1 := slot 0 by the high
+/// one.
+fn copying(copied: Integer) -> Vec<u8> {
     programme_sheet(&[
-        Block::new(LOW, assign(0, integer(42))),
+        Block::new(LOW, assign(0, integer(copied))),
         Block::new(HIGH, assign(1, read(0))),
     ])
+}
+
+/// Document 01's programme: the integer is 42.
+fn two_blocks() -> Vec<u8> {
+    copying(42)
 }
 
 /// The answer of a run; if it is refused, the output must be as it was.
@@ -85,7 +97,7 @@ fn the_written_sheets_are_those_of_the_repository_s_example() {
 
 #[test]
 fn a_finished_run_leaves_its_end_store() {
-    let mut out = [UNTOUCHED; 10];
+    let mut out = [UNTOUCHED; OUTPUT];
     let finished = run(&store(), &two_blocks(), Rule::AccessControl, 10, &mut out);
     let expected = Finished {
         blocks: 2,
@@ -99,15 +111,89 @@ fn a_finished_run_leaves_its_end_store() {
     assert_eq!(end_store(&store(), &out), Some(end.to_vec()));
 }
 
+/// "Integers are signed 64-bit": the ends, those of 32 bits and their
+/// neighbours, and a ratio scaled by 10 to the 12th, of either sign.
+const TELLING: [Integer; 14] = [
+    Integer::MIN,
+    Integer::MIN + 1,
+    Integer::MAX - 1,
+    Integer::MAX,
+    i32::MIN as Integer - 1,
+    i32::MIN as Integer,
+    i32::MAX as Integer,
+    i32::MAX as Integer + 1,
+    u32::MAX as Integer,
+    u32::MAX as Integer + 1,
+    -1,
+    0,
+    815_042_637_915,
+    -815_042_637_915,
+];
+
+/// From the sheet to the output, and from a literal over two slots to it.
+#[test]
+fn every_integer_goes_through_a_run_unchanged() {
+    for telling in TELLING {
+        let bytes = [&[Value::INTEGER], telling.to_le_bytes().as_slice()].concat();
+        let (opening, copied) = (store_sheet(&MASKS, &slots_of([telling; 2])), store());
+        let (nothing, copying) = (programme_sheet(&[]), copying(telling));
+        for (store, programme) in [(opening, nothing), (copied, copying)] {
+            let mut out = [UNTOUCHED; OUTPUT];
+            let finished = run(&store, &programme, Rule::AccessControl, 2, &mut out);
+            assert!(finished.is_ok(), "{telling}: {finished:?}");
+            assert_eq!(out.to_vec(), bytes.repeat(2), "{telling}");
+            let end = slots_of([telling; 2]).to_vec();
+            assert_eq!(end_store(&store, &out), Some(end));
+        }
+    }
+}
+
+/// A truth value or a view in its bytes, with one byte of its payload set. The
+/// lowest is left: another one there may be good.
+fn with_a_byte_set(value: Value) -> impl Iterator<Item = [u8; Value::BYTES]> {
+    let places = 2..Value::BYTES;
+    places.flat_map(move |place| {
+        [1, 0x80].map(|byte| {
+            let mut bytes = value.to_bytes();
+            bytes[place] = byte;
+            bytes
+        })
+    })
+}
+
+#[test]
+fn every_byte_of_a_payload_is_judged() {
+    for value in [
+        Value::Truth(false),
+        Value::Truth(true),
+        Value::ReadView(1),
+        Value::WriteView(0),
+    ] {
+        for bytes in with_a_byte_set(value) {
+            let mut sheet = store();
+            let start = sheet.len() - bytes.len();
+            sheet[start..].copy_from_slice(&bytes);
+            assert_eq!(check_store(&sheet), Err(Refusal::Value), "{bytes:?}");
+
+            let mut code = assign(0, literal(value));
+            let offset = code.len() - bytes.len();
+            code[offset..].copy_from_slice(&bytes);
+            let refused = Refusal::IllFormedCode(Place { block: 0, offset });
+            let judged = check_programme(&programme_of(LOW, code), 2, 2);
+            assert_eq!(judged, Err(refused), "{bytes:?}");
+        }
+    }
+}
+
 #[test]
 fn an_end_store_is_read_only_where_every_length_is_right() {
-    let (store, good) = (store(), [0; 10]);
+    let (store, good) = (store(), [0; OUTPUT]);
     assert!(end_store(&store, &good).is_some());
-    assert_eq!(end_store(&store, &good[..9]), None);
-    assert_eq!(end_store(&store, &[0; 11]), None);
+    assert_eq!(end_store(&store, &good[1..]), None);
+    assert_eq!(end_store(&store, &[0; OUTPUT + 1]), None);
     assert_eq!(end_store(&store[..12], &good), None, "an owner is missing");
     assert_eq!(end_store(&store[..2], &[]), None, "a size is missing");
-    let ill_formed = [9; 10];
+    let ill_formed = [9; OUTPUT];
     assert_eq!(end_store(&store, &ill_formed), None);
 }
 
@@ -184,7 +270,7 @@ fn arguments_are_judged() {
     let past = answer(&store, &programme, Rule::AccessControl, MOST_BUDGET + 1);
     assert_eq!(past, Err(Refusal::Arguments));
     assert!(answer(&store, &programme, Rule::AccessControl, MOST_BUDGET).is_ok());
-    for length in [0, 9, 11] {
+    for length in [0, OUTPUT - 1, OUTPUT + 1] {
         let mut out = vec![UNTOUCHED; length];
         let refused = run(&store, &programme, Rule::House, 10, &mut out);
         assert_eq!(refused, Err(Refusal::OutputLength));
@@ -195,7 +281,7 @@ fn arguments_are_judged() {
 #[test]
 fn every_rule_is_known_and_no_other_number() {
     for number in 0..=u8::MAX {
-        let mut out = [UNTOUCHED; 10];
+        let mut out = [UNTOUCHED; OUTPUT];
         let answer = raw::run(&store(), &programme_sheet(&[]), number, 0, &mut out);
         let known = Rule::from_number(number).is_some();
         assert_eq!(answer.number, if known { 0 } else { 11 }, "rule {number}");
@@ -208,11 +294,12 @@ fn a_step_that_is_forbidden_is_refused_at_its_place() {
     let expected = Err(Refusal::WrongKind(stop(0, 0, 0)));
     assert_eq!(ran(&wrong_kind, Rule::AccessControl), expected);
 
-    let second = sequence(&[assign(0, integer(1)), assign(1, integer(9))]);
-    let low = programme_of(LOW, second);
-    let expected = Err(Refusal::NoAuthority(stop(0, 15, 1)));
+    let (own, other) = (assign(0, integer(1)), assign(1, integer(9)));
+    let second = sequence(&[]).len() + own.len();
+    let low = programme_of(LOW, sequence(&[own, other]));
+    let expected = Err(Refusal::NoAuthority(stop(0, second, 1)));
     assert_eq!(ran(&low, Rule::AccessControl), expected);
-    let expected = Err(Refusal::WriteViewNotAllowed(stop(0, 15, 1)));
+    let expected = Err(Refusal::WriteViewNotAllowed(stop(0, second, 1)));
     assert_eq!(ran(&low, Rule::Capability), expected);
 
     let expected = Err(Refusal::ProvenanceTooLow(stop(1, 0, 1)));
@@ -267,6 +354,8 @@ fn filled(bytes: usize) -> Code {
 #[test]
 fn the_command_at_a_place_is_named() {
     let through = assignment(read(0), integer(1));
+    let if_place = sequence(&[skip()]).len();
+    let then_place = if_place + if_command(truth(true), Vec::new(), Vec::new()).len();
     let whole = sequence(&[skip(), if_command(truth(true), through, skip())]);
     let sheet = programme_sheet(&[Block::new(LOW, skip()), Block::new(HIGH, whole)]);
     let at = |block, offset| command_at(&sheet, Place { block, offset });
@@ -274,8 +363,8 @@ fn the_command_at_a_place_is_named() {
     assert_eq!(at(0, 1), None, "the next block's byte");
     assert_eq!(at(1, 0), Some(Command::Sequence));
     assert_eq!(at(1, 1), None, "a count");
-    assert_eq!(at(1, 3), Some(Command::If));
-    assert_eq!(at(1, 10), Some(Command::Assignment));
+    assert_eq!(at(1, if_place), Some(Command::If));
+    assert_eq!(at(1, then_place), Some(Command::Assignment));
     assert_eq!(at(2, 0), None, "past the last block");
     assert_eq!(
         command_at(

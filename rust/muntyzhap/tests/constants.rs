@@ -9,23 +9,36 @@ use muntyzhap::{Place, Refusal, Rule, Stop, Value, MOST_BUDGET};
 
 const HEADER: &str = include_str!("../../../include/muntyzhap.h");
 
+const PREFIX: &str = "MUNTYZHAP_";
+
 /// The constants that the header defines, by name.
 fn defined() -> BTreeMap<String, u64> {
-    let names = HEADER.lines().filter_map(|line| {
-        let mut words = line.strip_prefix("#define MUNTYZHAP_")?.split_whitespace();
-        let (name, number) = (words.next()?, words.next()?);
-        assert_eq!(words.next(), None, "{line}");
-        Some((name.to_string(), value(number)))
-    });
-    names.collect()
+    let mut all = BTreeMap::new();
+    let lines = HEADER.lines();
+    let definitions = lines.filter_map(|line| line.strip_prefix("#define ")?.split_once(' '));
+    for (name, meaning) in definitions {
+        let name = name.strip_prefix(PREFIX).expect("the prefix");
+        all.insert(name.to_string(), value(meaning, &all));
+    }
+    all
 }
 
-fn value(number: &str) -> u64 {
-    let value = match number.strip_prefix("0x") {
+/// The value of a number, or of a sum of numbers and constants known by now.
+fn value(meaning: &str, known: &BTreeMap<String, u64>) -> u64 {
+    let sum = meaning
+        .strip_prefix('(')
+        .and_then(|sum| sum.strip_suffix(')'));
+    if let Some(sum) = sum {
+        return sum.split(" + ").map(|part| value(part, known)).sum();
+    }
+    if let Some(name) = meaning.strip_prefix(PREFIX) {
+        return known[name];
+    }
+    let number = match meaning.strip_prefix("0x") {
         Some(digits) => u64::from_str_radix(digits, 16),
-        None => number.parse(),
+        None => meaning.parse(),
     };
-    value.expect("a number")
+    number.expect("a number")
 }
 
 fn refusals() -> Vec<(&'static str, u64)> {

@@ -1,6 +1,7 @@
 //! A small builder for sheets and code, and the two ways a call may end.
-//! It knows document 01's bytes itself and takes nothing from the library but
-//! its public calls. The list of cases in `rust/vectors` is built with it too.
+//! It knows the bytes of documents 01 and 02 itself and takes nothing from the
+//! library but its public calls. The list of cases in `rust/vectors` is built
+//! with it too.
 
 // Each test file uses its own share of these helpers.
 #![allow(dead_code)]
@@ -11,10 +12,17 @@ pub const RULES: [u8; 5] = [0, 1, 2, 3, 255];
 /// Enough steps for any run here that isn't about the budget.
 pub const AMPLE: u32 = 1_000;
 /// The widths of a payload, a value, a literal and a slot in the output.
-pub const PAYLOAD: usize = 4;
+pub const PAYLOAD: usize = 8;
 pub const VALUE: usize = 1 + PAYLOAD;
 pub const LITERAL: usize = 1 + VALUE;
 pub const OUTPUT_SLOT: usize = VALUE;
+/// The least and the greatest integer that a payload holds.
+pub const LEAST: i64 = i64::MIN;
+pub const GREATEST: i64 = i64::MAX;
+/// Payloads in which one byte is 1 and the others are 0: the first byte of the
+/// upper half, and the last byte.
+pub const UPPER_HALF: i64 = 1 << (8 * PAYLOAD / 2);
+pub const LAST_BYTE: i64 = 1 << (8 * (PAYLOAD - 1));
 /// What a lent buffer holds before the call.
 const LENT: u8 = 0xEE;
 
@@ -23,6 +31,16 @@ pub type Bytes = Vec<u8>;
 
 pub fn join(parts: &[&[u8]]) -> Bytes {
     parts.concat()
+}
+
+/// Bytes as the documents print them: hexadecimal, with spaces between.
+pub fn hex(digits: &str) -> Bytes {
+    let digits: Vec<char> = digits.chars().filter(|digit| *digit != ' ').collect();
+    let byte = |pair: &[char]| {
+        let pair: String = pair.iter().collect();
+        u8::from_str_radix(&pair, 16).expect("two digits")
+    };
+    digits.chunks(2).map(byte).collect()
 }
 
 pub fn value(kind: u8, payload: i64) -> Bytes {

@@ -34,6 +34,16 @@ impl Random {
         self.below(count) == 0
     }
 
+    /// Integers of all sizes: small ones, both ends, and any number of bits.
+    pub fn integer(&mut self) -> i64 {
+        match self.below(8) {
+            0..=2 => self.below(201) as i64 - 100,
+            3 => LEAST,
+            4 => GREATEST,
+            _ => self.next() as i64 >> self.below(64),
+        }
+    }
+
     pub fn bytes(&mut self, most: usize) -> Bytes {
         let length = self.below(most + 1);
         (0..length).map(|_| self.next() as u8).collect()
@@ -54,7 +64,7 @@ impl Maker {
     fn value(&mut self) -> Bytes {
         let kinds = if self.slots == 0 { 2 } else { 4 };
         match self.random.below(kinds) {
-            0 => integer(self.random.next() as i64),
+            0 => integer(self.random.integer()),
             1 => truth(self.random.one_in(2)),
             2 => read_view(self.random.below(self.slots) as i64),
             _ => write_view(self.random.below(self.slots) as i64),

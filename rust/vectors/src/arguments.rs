@@ -90,7 +90,7 @@ fn budgets() -> Vec<Case> {
 
 /// Two slots ask for two slots' bytes, no fewer and no more.
 fn outputs() -> Vec<Case> {
-    let lent = |name, length| case(name, "12 output not 5 × m bytes").output(length);
+    let lent = |name, length| case(name, "Output is 9 × m bytes.").output(length);
     let full = 2 * OUTPUT_SLOT;
     let empty = |draft: Draft| draft.store(store(&[1], &[]));
     let bad_code = "9 or 10 in byte order; 12; run";

@@ -1,5 +1,6 @@
 //! "Finds from the test trench": those that are not marked P, then P1 to P12,
 //! whose theorem is about the definitions and which are played here as well.
+//! "01's finds are worked again" (document 02, N3): values have nine bytes.
 
 use crate::case::{case, Case};
 use crate::common::*;
@@ -81,14 +82,13 @@ fn examples() -> Vec<Case> {
 fn single_blocks() -> Vec<Case> {
     let high = |name| case(name, "slot 1 := 9: rule 0 gives 14, rule 1 gives 15");
     let view = |name| case(name, "P8: region 00, slot 0 := write view of slot 1");
-    let branch = |name| {
-        case(
-            name,
-            "if read of slot 0 then slot 1 := 41 else slot 1 := 42",
-        )
-        .store(store(&PAIR, &[(0, truth(true)), (1, integer(7))]))
-        .block(1, if_else(slot(0), set_integer(1, 41), set_integer(1, 42)))
+    let branch = |name, says| {
+        case(name, says)
+            .store(store(&PAIR, &[(0, truth(true)), (1, integer(7))]))
+            .block(1, if_else(slot(0), set_integer(1, 41), set_integer(1, 42)))
     };
+    let choice = "if read of slot 0 then slot 1 := 41 else slot 1 := 42";
+    let offset = "the branch of P9 then stands at offset 12";
     let put_view = set(0, literal(write_view(1)));
     vec![
         high("P6").block(0, set_integer(1, 9)).refused(14, 0, 0, 0),
@@ -103,13 +103,10 @@ fn single_blocks() -> Vec<Case> {
             .block(0, put_view)
             .rule(1)
             .refused(15, 0, 0, 0),
-        branch("P9 rule 2")
+        branch("P9 rule 2", choice)
             .rule(2)
             .finishes(2, &[truth(true), integer(41)]),
-        // The then-part follows the if's byte and a guard of one read.
-        branch("P9 rule 3")
-            .rule(3)
-            .refused(16, 0, 1 + 1 + LITERAL, 1),
+        branch("P9 rule 3", offset).rule(3).refused(16, 0, 12, 1),
     ]
 }
 

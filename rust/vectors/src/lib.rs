@@ -16,6 +16,7 @@ mod code;
 mod descents;
 mod finds;
 mod labels;
+mod payloads;
 mod programme_sheets;
 mod steps;
 mod store_sheets;

@@ -2,7 +2,8 @@
 
 use crate::case::Case;
 use crate::{
-    arguments, code, descents, finds, labels, paper, programme_sheets, steps, store_sheets,
+    arguments, code, descents, finds, labels, paper, payloads, programme_sheets, steps,
+    store_sheets,
 };
 
 pub fn cases() -> Vec<Case> {
@@ -15,6 +16,7 @@ pub fn cases() -> Vec<Case> {
         steps::cases(),
         labels::cases(),
         descents::cases(),
+        payloads::cases(),
         paper::cases(),
     ]
     .into_iter()

@@ -146,7 +146,7 @@ fn good_values() -> Vec<Case> {
     let good = |name: &str, value: Bytes| {
         one_slot(
             name,
-            "A value is a kind byte and a 4-byte payload",
+            "A payload becomes 8 bytes and a value 9, in sheets, code and output.",
             value.clone(),
         )
         .finishes(0, &[value])
@@ -156,8 +156,8 @@ fn good_values() -> Vec<Case> {
     let end: Vec<Bytes> = last.iter().map(|(_, value)| value.clone()).collect();
     vec![
         good("value -1", integer(-1)),
-        good("value least integer", integer(i64::from(i32::MIN))),
-        good("value greatest integer", integer(i64::from(i32::MAX))),
+        good("value least integer", integer(LEAST)),
+        good("value greatest integer", integer(GREATEST)),
         good("value true", truth(true)),
         good("value read view", read_view(0)),
         good("value write view", write_view(0)),

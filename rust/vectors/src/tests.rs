@@ -88,6 +88,16 @@ fn the_paper_s_table_comes_out() {
     }
 }
 
+/// Of 3 + 4 × 32 + 256 + 9 × 256 and of 3 + 64 + 2 × 64 + 16,384 bytes, with an
+/// output of 9 × 256.
+#[test]
+fn the_largest_good_sheets_are_played() {
+    let cases = list::cases();
+    let Case { call, output, .. } = case_named(&cases, "all at its limit");
+    let lengths = [call.store.len(), call.programme.len(), *output];
+    assert_eq!(lengths, [2691, 16_579, 2304]);
+}
+
 #[test]
 fn a_case_has_the_bytes_that_the_program_reads() {
     let cases = [case("ab", "")
@@ -117,7 +127,7 @@ fn a_line_tells_the_answer_and_the_output() {
         case("no slots", "").store(none).finishes(0, &[]),
     ];
     let lines = "refused: end 17 block 1 at 2 steps 3 output untouched\n\
-        two slots: end 0 block 0 at 0 steps 4 output 00feffffff 0201000000\n\
+        two slots: end 0 block 0 at 0 steps 4 output 00feffffffffffffff 020100000000000000\n\
         no slots: end 0 block 0 at 0 steps 0 output empty\n\
         cases played: 3\n";
     assert_eq!(layout::lines(&cases), lines);
