@@ -4,6 +4,7 @@ use std::fmt::{self, Display, Formatter};
 
 use crate::answers::Answer;
 use crate::layout::Layout;
+use crate::values::Value;
 use crate::{proved, second};
 
 /// One call, with all its bytes.
@@ -64,7 +65,8 @@ struct Lent {
 }
 
 impl Lent {
-    const MARGIN: usize = 8;
+    /// Room for a value too many.
+    const MARGIN: usize = 2 * Value::WIDTH;
 
     fn new(length: usize) -> Lent {
         let pattern = |place: usize| 0xA0 ^ (place % 0x1F) as u8;
@@ -127,7 +129,7 @@ impl Call {
         }
     }
 
-    fn second(&self) -> Seen {
+    pub fn second(&self) -> Seen {
         match self {
             Call::CheckStore { sheet } => Seen::number(second_runner::check_store(sheet)),
             Call::CheckTable { sheet } => Seen::number(second_runner::check_table(sheet)),
@@ -140,27 +142,56 @@ impl Call {
         }
     }
 
+    /// The store sheet, if the call has one.
+    pub fn store(&self) -> Option<&[u8]> {
+        match self {
+            Call::CheckStore { sheet } => Some(sheet),
+            Call::Run(run) => Some(&run.store),
+            _ => None,
+        }
+    }
+
+    /// The programme sheet, if the call has one.
+    pub fn programme(&self) -> Option<&[u8]> {
+        match self {
+            Call::CheckProgramme { sheet, .. } => Some(sheet),
+            Call::Run(run) => Some(&run.programme),
+            _ => None,
+        }
+    }
+
+    /// The same call with another store sheet, if it has one.
+    pub fn with_store(&self, store: Vec<u8>) -> Call {
+        let mut call = self.clone();
+        match &mut call {
+            Call::CheckStore { sheet } => *sheet = store,
+            Call::Run(run) => run.store = store,
+            _ => (),
+        }
+        call
+    }
+
+    /// The same call with another programme sheet, if it has one.
+    pub fn with_programme(&self, programme: Vec<u8>) -> Call {
+        let mut call = self.clone();
+        match &mut call {
+            Call::CheckProgramme { sheet, .. } => *sheet = programme,
+            Call::Run(run) => run.programme = programme,
+            _ => (),
+        }
+        call
+    }
+
     /// The same call with one block less, each block in turn.
     fn smaller(&self) -> Vec<Call> {
-        let with = |programme| {
-            let mut call = self.clone();
-            match &mut call {
-                Call::CheckProgramme { sheet, .. } => *sheet = programme,
-                Call::Run(run) => run.programme = programme,
-                _ => (),
-            }
-            call
-        };
-        let programme = match self {
-            Call::CheckProgramme { sheet, .. } => sheet,
-            Call::Run(run) => &run.programme,
-            _ => return Vec::new(),
-        };
-        let Some(layout) = Layout::of(programme) else {
+        let Some((programme, layout)) = self
+            .programme()
+            .and_then(|sheet| Some((sheet, Layout::of(sheet)?)))
+        else {
             return Vec::new();
         };
         (0..layout.blocks)
-            .map(|block| with(layout.without(programme, block)))
+            .map(|block| self.with_programme(layout.without(programme, block)))
             .collect()
     }
 }
@@ -230,6 +261,6 @@ impl Display for Seen {
     }
 }
 
-fn hex(bytes: &[u8]) -> String {
+pub fn hex(bytes: &[u8]) -> String {
     bytes.iter().map(|byte| format!("{byte:02X}")).collect()
 }

@@ -26,7 +26,7 @@ impl Expression {
         }
     }
 
-    fn write_to(&self, sheet: &mut Sheet) {
+    pub fn write_to(&self, sheet: &mut Sheet) {
         sheet.push(Part::Expression, &vec![Expression::READ; self.reads]);
         sheet.push(Part::Expression, &[Expression::LITERAL]);
         sheet.push_value(self.literal);

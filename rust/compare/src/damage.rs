@@ -1,10 +1,11 @@
 //! Damage to a good sheet, aimed at what its bytes say.
 
 use crate::code::{Block, Command, Expression};
+use crate::high_bytes::set_high_bytes;
 use crate::layout::Layout;
 use crate::random::Random;
 use crate::sheets::{Part, Sheet};
-use crate::values::Kind;
+use crate::values::{Kind, Value};
 
 /// The sheet with one or two things wrong. Now and then it is still good.
 pub fn damaged(random: &mut Random, sheet: &Sheet) -> Vec<u8> {
@@ -23,6 +24,7 @@ pub fn damaged(random: &mut Random, sheet: &Sheet) -> Vec<u8> {
         4 => swap(random, &mut bytes),
         5 => change_size(random, sheet, &mut bytes),
         6..=9 => reshape_code(random, sheet, &mut bytes),
+        10 | 11 => raise_payload(random, sheet, &mut bytes),
         _ => change_part(random, sheet, &mut bytes),
     }
     bytes
@@ -59,6 +61,16 @@ fn change_size(random: &mut Random, sheet: &Sheet, bytes: &mut [u8]) {
         2 => random.pick(&[0, 32, 33, 64, 65, 255]),
         _ => random.byte(),
     };
+}
+
+/// The payload of a truth value or a view gets too high by its high bytes.
+fn raise_payload(random: &mut Random, sheet: &Sheet, bytes: &mut [u8]) {
+    let mut kinds = sheet.places(Part::Kind);
+    kinds.retain(|place| sheet.bytes[*place] != Kind::Integer as u8);
+    match random.pick_any(&kinds) {
+        Some(kind) => set_high_bytes(random, &mut bytes[kind + 1..kind + Value::WIDTH]),
+        None => put(random, bytes),
+    }
 }
 
 /// Some byte becomes one that is telling at its place.
@@ -186,7 +198,7 @@ mod tests {
         for case in 0..3_000 {
             let (store, programme) = store_and_programme(case);
             let bytes = damaged(&mut Random::of_case(9, case), &programme);
-            let mut output = vec![0; 5 * store.table.slots()];
+            let mut output = vec![0; store.table.slots() * Value::WIDTH];
             let answer = run(&store.bytes(), &bytes, 0, 100, &mut output);
             seen[answer.number as usize] += 1;
         }

@@ -166,21 +166,27 @@ pub fn formless_programme(random: &mut Random, principals: usize) -> Sheet {
 }
 
 fn formless_code(random: &mut Random) -> Sheet {
-    const PIECES: [&[u8]; 10] = [
-        &[Expression::LITERAL],
-        &[Expression::LITERAL, 0, 7, 0, 0, 0],
-        &[Expression::LITERAL, 1, 1, 0, 0, 0],
-        &[Expression::READ],
-        &[Command::SKIP],
-        &[Command::ASSIGN],
-        &[Command::SEQUENCE, 2],
-        &[Command::IF, Expression::LITERAL, 1, 1, 0, 0, 0],
-        &[Command::WHILE, Expression::LITERAL, 1, 0, 0, 0, 0],
-        &[0],
+    let literal = |before: &[u8], value| {
+        let mut sheet = Sheet::default();
+        sheet.push(Part::Command, before);
+        Expression::literal(value).write_to(&mut sheet);
+        sheet.bytes
+    };
+    let pieces = [
+        vec![Expression::LITERAL],
+        literal(&[], Value::Integer(7)),
+        literal(&[], Value::Truth(true)),
+        vec![Expression::READ],
+        vec![Command::SKIP],
+        vec![Command::ASSIGN],
+        vec![Command::SEQUENCE, 2],
+        literal(&[Command::IF], Value::Truth(true)),
+        literal(&[Command::WHILE], Value::Truth(false)),
+        vec![0],
     ];
     let mut code = Sheet::default();
     for _ in 0..random.between(1, 4) {
-        let piece = random.pick(&PIECES);
+        let piece = random.pick(&pieces.each_ref());
         let times = match random.below(4) {
             0 => random.pick(&[8, 9, 31, 32, 33]),
             _ => random.between(1, 3),

@@ -3,26 +3,33 @@
 //!     compare sheets [--seed S] [--count N]
 //!     compare runs   [--seed S] [--count N]
 //!     compare pairs  [--seed S] [--count N]
+//!     compare prints [--seed S] [--count N]
 //!
 //! The same seed and count give the same play. It ends with status 0 when the
 //! two runners never differ and every answer that can come up did.
 //!
 //! The proved runner is the static library, through the crate `muntyzhap`.
 //! Without the feature `proved` the second runner stands in for it, to try the
-//! generators.
+//! generators. `prints` runs the proved printing program, `blockrun`.
 
 #![forbid(unsafe_code)]
 
 mod answers;
 mod author;
+mod blockrun;
 mod calls;
 mod code;
 mod damage;
 mod flaws;
+mod high_bytes;
+mod inputs;
+mod integers;
 mod lattices;
 mod layout;
 mod limits;
+mod lines;
 mod play_pairs;
+mod play_prints;
 mod play_runs;
 mod play_sheets;
 #[cfg(feature = "proved")]
@@ -47,13 +54,14 @@ use crate::play_pairs::Stopped;
 use crate::tally::Tally;
 
 const DEFAULT_SEED: u64 = 1;
-const USAGE: &str = "usage: compare sheets|runs|pairs [--seed S] [--count N]";
+const USAGE: &str = "usage: compare sheets|runs|pairs|prints [--seed S] [--count N]";
 
 #[derive(Debug, Clone, Copy)]
 enum Play {
     Sheets,
     Runs,
     Pairs,
+    Prints,
 }
 
 impl Play {
@@ -62,16 +70,18 @@ impl Play {
             "sheets" => Some(Play::Sheets),
             "runs" => Some(Play::Runs),
             "pairs" => Some(Play::Pairs),
+            "prints" => Some(Play::Prints),
             _ => None,
         }
     }
 
-    /// So many of all three take about a minute together.
+    /// So many of all four take about a minute together.
     fn default_count(self) -> u64 {
         match self {
             Play::Sheets => 240_000,
             Play::Runs => 60_000,
             Play::Pairs => 60_000,
+            Play::Prints => 6_000,
         }
     }
 }
@@ -119,6 +129,10 @@ impl Report {
         self.lines.push(line.to_string());
     }
 
+    fn say_all(&mut self, lines: Vec<String>) {
+        self.lines.extend(lines);
+    }
+
     /// How often each answer came up.
     fn say_answers(&mut self, tallies: &[&Tally]) {
         self.say(Tally::heading());
@@ -153,6 +167,7 @@ fn main() -> ExitCode {
         Play::Sheets => play_sheets(seed, count),
         Play::Runs => play_runs(seed, count),
         Play::Pairs => play_pairs(seed, count),
+        Play::Prints => play_prints(seed, count),
     };
     if let Err(error) = report.write_to(&mut io::stdout()) {
         eprintln!("the report cannot be written: {error}");
@@ -167,7 +182,8 @@ fn play_sheets(seed: u64, count: u64) -> Report {
         Ok(played) => {
             report.say(format!("{count} sheets of seed {seed}: no difference"));
             report.say_answers(&played.tallies());
-            report.complaints = played.tallies().map(Tally::complaints).concat();
+            report.say_all(played.high_bytes.lines());
+            report.complaints = played.complaints();
         }
         Err(difference) => report.differs(*difference),
     }
@@ -185,6 +201,8 @@ fn play_runs(seed: u64, count: u64) -> Report {
             ));
             report.say_answers(&tallies);
             report.say(played.budgets);
+            report.say_all(played.high_bytes.lines());
+            report.say_all(played.integers.lines());
             report.complaints = played.complaints();
         }
         Err(difference) => report.differs(*difference),
@@ -199,7 +217,7 @@ fn play_pairs(seed: u64, count: u64) -> Report {
             report.say(format!(
                 "{count} pairs of runs of seed {seed}: isolated under rule 3"
             ));
-            played.lines().iter().for_each(|line| report.say(line));
+            report.say_all(played.lines());
             report.complaints = played.complaints();
         }
         Err(Stopped::Differs(difference)) => report.differs(*difference),
@@ -210,6 +228,20 @@ fn play_pairs(seed: u64, count: u64) -> Report {
                 "protected slots differ and end alike:\n{one}{other}"
             ));
         }
+    }
+    report
+}
+
+fn play_prints(seed: u64, count: u64) -> Report {
+    let mut report = Report::default();
+    match play_prints::play(seed, count) {
+        Ok(played) => {
+            report.say(format!("{count} inputs of seed {seed}: no difference"));
+            report.say_answers(&[&played.answers]);
+            report.say_all(played.lines());
+            report.complaints = played.complaints();
+        }
+        Err(stopped) => report.complaints.push(stopped.to_string()),
     }
     report
 }

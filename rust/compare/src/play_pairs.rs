@@ -70,6 +70,8 @@ pub struct Counts {
     pub finished: u64,
     /// Finished, and some slot ends differently.
     pub told_apart: u64,
+    /// Finished, and some slot ends differently by its high bytes alone.
+    pub by_high_bytes: u64,
     /// Finished, and a protected slot doesn't end as it began.
     pub written: u64,
     /// Finished, and a protected slot ends differently.
@@ -81,13 +83,15 @@ impl Display for Counts {
         let Counts {
             finished,
             told_apart,
+            by_high_bytes,
             written,
             leaked,
         } = self;
         write!(
             out,
             "{finished} pairs finish; {written} of them write a protected slot, \
-             {told_apart} end differently in some slot, {leaked} in a protected one"
+             {told_apart} end differently in some slot, {by_high_bytes} in one by its high \
+             bytes alone, {leaked} in a protected one"
         )
     }
 }
@@ -119,6 +123,8 @@ pub struct Played {
     without: [Counts; Without::ALL.len()],
     /// Pairs of stores that differ in a protected slot and end differently.
     shown: u64,
+    /// Those among them that differ by its high bytes alone.
+    shown_by_high_bytes: u64,
 }
 
 impl Played {
@@ -139,8 +145,11 @@ impl Played {
         let rules = rules.map(|(rules, counts)| format!("{rules}: {counts}"));
         let without = self.without();
         let without = without.map(|(words, counts)| format!("{words}: {counts}"));
-        let shown = self.shown;
-        let back = format!("{shown} pairs of stores differ in a protected slot, and end so");
+        let (shown, by_high_bytes) = (self.shown, self.shown_by_high_bytes);
+        let back = format!(
+            "{shown} pairs of stores differ in a protected slot, {by_high_bytes} by its high \
+             bytes alone, and end so"
+        );
         rules.chain(without).chain([back]).collect()
     }
 
@@ -161,7 +170,18 @@ impl Played {
             .filter(|(_, counts)| counts.leaked == 0)
             .map(|(words, _)| format!("{words}: no pair ends differently where protected"));
         let unseen = (self.shown == 0).then(|| "no stores differ where protected".to_string());
-        idle.chain(blind).chain(needless).chain(unseen).collect()
+        let answers = idle.chain(blind).chain(needless).chain(unseen);
+        answers.chain(self.complaints_of_high_bytes()).collect()
+    }
+
+    fn complaints_of_high_bytes(&self) -> Vec<String> {
+        let coarse = self
+            .rules()
+            .filter(|(_, counts)| counts.by_high_bytes == 0)
+            .map(|(rules, _)| format!("{rules}: no pair ends differently by high bytes alone"));
+        let unseen = (self.shown_by_high_bytes == 0)
+            .then(|| "no stores differ where protected by high bytes alone".to_string());
+        coarse.chain(unseen).collect()
     }
 }
 
@@ -226,6 +246,7 @@ pub fn play(seed: u64, count: u64) -> Result<Played, Stopped> {
                 pair.play_back(rules)?;
             }
             played.shown += 1;
+            played.shown_by_high_bytes += u64::from(pair.opens_apart_by_high_bytes());
         }
     }
     Ok(played)
@@ -260,7 +281,9 @@ impl Pair {
         let protected: Vec<usize> = pair.protected().collect();
         let slot = random.pick_any(&protected)?;
         let old = pair.stores[1].values[slot];
-        let new = Value::random(random, pair.stores[1].table.slots());
+        let slots = pair.stores[1].table.slots();
+        let kind = Kind::random(random, slots);
+        let new = another(random, old, kind, slots);
         pair.stores[1].values[slot] = new;
         pair.replacements = [Vec::new(), Vec::new()];
         (new != old).then_some(pair)
@@ -277,6 +300,7 @@ impl Pair {
         }
         counts.finished += 1;
         counts.told_apart += u64::from(ends[0].output() != ends[1].output());
+        counts.by_high_bytes += u64::from(self.told_apart_by_high_bytes(&ends));
         counts.written += u64::from(self.wrote_protected(&ends));
         let Some(slot) = self.leak(&ends) else {
             return Ok(None);
@@ -312,6 +336,20 @@ impl Pair {
         })
     }
 
+    /// Whether some protected slot opens differently by its high bytes alone.
+    fn opens_apart_by_high_bytes(&self) -> bool {
+        let at = |side: usize, slot: usize| self.stores[side].values[slot].bytes();
+        self.protected()
+            .any(|slot| differ_by_high_bytes(&at(0, slot), &at(1, slot)))
+    }
+
+    /// Whether some slot ends differently by its high bytes alone.
+    fn told_apart_by_high_bytes(&self, ends: &[Seen; 2]) -> bool {
+        let at = |side: usize, slot| slot_bytes(ends[side].output(), slot);
+        let mut slots = 0..self.stores[0].table.slots();
+        slots.any(|slot| differ_by_high_bytes(at(0, slot), at(1, slot)))
+    }
+
     fn protected(&self) -> impl Iterator<Item = usize> + '_ {
         let table = &self.stores[0].table;
         let test = |slot: &usize| is_protected(table, *slot, self.adversary);
@@ -337,6 +375,12 @@ impl Pair {
 
 fn slot_bytes(output: &[u8], slot: usize) -> &[u8] {
     &output[slot * Value::WIDTH..(slot + 1) * Value::WIDTH]
+}
+
+/// Whether two values, in bytes, are of one kind and one number but for the high
+/// bytes.
+fn differ_by_high_bytes(one: &[u8], other: &[u8]) -> bool {
+    one != other && one[..1 + Value::LOW] == other[..1 + Value::LOW]
 }
 
 fn is_protected(table: &Table, slot: usize, adversary: u8) -> bool {
@@ -370,9 +414,21 @@ fn altered(random: &mut Random, store: &Store, adversary: u8) -> Store {
             true => Kind::random(random, slots),
             false => value.kind(),
         };
-        *value = Value::random_of(random, kind, slots);
+        *value = another(random, *value, kind, slots);
     }
     other
+}
+
+/// Any value of this kind in place of another; often one bit in the high bytes
+/// of an integer is turned.
+fn another(random: &mut Random, old: Value, kind: Kind, slots: usize) -> Value {
+    match old {
+        Value::Integer(integer) if kind == Kind::Integer && random.one_in(3) => {
+            let bit = random.between(8 * Value::LOW, 8 * Value::PAYLOAD - 1);
+            Value::Integer(integer ^ (1 << bit))
+        }
+        _ => Value::random_of(random, kind, slots),
+    }
 }
 
 /// Enough for runs that end, sometimes too little.
@@ -460,15 +516,33 @@ mod tests {
         assert!(complaints.is_empty(), "{complaints:?}");
     }
 
-    /// Without a condition, and with protected slots that differ, there is
-    /// something to see.
     #[test]
     fn what_is_never_seen_is_told() {
-        let mut played = play(DEFAULT_SEED, 1_000).expect("no difference and no leak");
+        let all = Counts {
+            finished: 1,
+            told_apart: 1,
+            by_high_bytes: 1,
+            written: 1,
+            leaked: 1,
+        };
+        let mut played = Played {
+            pairs: 1,
+            rules: [all; Rules::ALL.len()],
+            without: [all; Without::ALL.len()],
+            shown: 1,
+            shown_by_high_bytes: 1,
+        };
         assert!(played.complaints().is_empty());
         played.shown = 0;
         played.without = Default::default();
         assert_eq!(played.complaints().len(), 1 + Without::ALL.len());
+        played.shown_by_high_bytes = 0;
+        played
+            .rules
+            .iter_mut()
+            .for_each(|counts| counts.by_high_bytes = 0);
+        let more = 1 + Rules::ALL.len();
+        assert_eq!(played.complaints().len(), 1 + Without::ALL.len() + more);
     }
 
     #[test]

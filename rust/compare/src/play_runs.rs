@@ -3,8 +3,10 @@
 use std::fmt::{self, Display, Formatter};
 
 use crate::answers::Answer;
-use crate::calls::{Call, Difference, Run};
+use crate::calls::{Call, Difference, Run, Seen};
 use crate::damage::damaged;
+use crate::high_bytes::HighBytes;
+use crate::integers::Integers;
 use crate::limits::programme_at_limit;
 use crate::play_sheets::{good_programme, large_programme, random_programme};
 use crate::random::Random;
@@ -19,7 +21,7 @@ const AMPLE: u32 = 3_000;
 
 /// The rules, each with the numbers from 14 to 16 that it can refuse by and
 /// those that it cannot.
-const RULES: [(u8, &[u32], &[u32]); 5] = [
+pub const RULES: [(u8, &[u32], &[u32]); 5] = [
     (0, &[14], &[15, 16]),
     (1, &[15], &[14, 16]),
     (2, &[14, 16], &[15]),
@@ -71,12 +73,15 @@ impl Display for Budgets {
     }
 }
 
-/// Counts of each rule, of rule numbers that there are not, and of budgets.
+/// Counts of each rule, of rule numbers that there are not, of budgets, of
+/// ill-formed values and of the integers that runs end with.
 #[derive(Debug, Clone)]
 pub struct Played {
     rules: Vec<(u8, Tally)>,
     other: Tally,
     pub budgets: Budgets,
+    pub high_bytes: HighBytes,
+    pub integers: Integers,
 }
 
 impl Played {
@@ -96,6 +101,8 @@ impl Played {
             rules: RULES.into_iter().map(tally).collect(),
             other: Tally::new("another rule", &[11], &not_11),
             budgets: Budgets::default(),
+            high_bytes: HighBytes::default(),
+            integers: Integers::default(),
         }
     }
 
@@ -103,7 +110,12 @@ impl Played {
     pub fn complaints(&self) -> Vec<String> {
         let tallies = self.tallies();
         let answers = tallies.iter().flat_map(|tally| tally.complaints());
-        answers.chain(self.budgets.complaints()).collect()
+        let others = [
+            self.budgets.complaints(),
+            self.high_bytes.complaints(),
+            self.integers.complaints(),
+        ];
+        answers.chain(others.concat()).collect()
     }
 
     pub fn tallies(&self) -> Vec<&Tally> {
@@ -111,10 +123,15 @@ impl Played {
         rules.chain([&self.other]).collect()
     }
 
-    fn count(&mut self, rule: u8, number: u32) {
+    /// Counts a run under this rule by what is seen of it.
+    fn count(&mut self, rule: u8, call: &Call, seen: &Seen) {
         let found = self.rules.iter_mut().find(|(own, _)| *own == rule);
         let tally = found.map_or(&mut self.other, |(_, tally)| tally);
-        tally.count(number);
+        tally.count(seen.answer.number);
+        self.high_bytes.count(call, seen.answer);
+        if let (0, Some(store)) = (seen.answer.number, call.store()) {
+            self.integers.count(store, seen.output());
+        }
     }
 }
 
@@ -133,14 +150,15 @@ pub fn play(seed: u64, count: u64) -> Result<Played, Box<Difference>> {
             }
             change_arguments(random, &mut run);
             let (rule, call) = (run.rule, Call::Run(run));
-            played.count(rule, call.compare()?.answer.number);
+            let seen = call.compare()?;
+            played.count(rule, &call, &seen);
         }
     }
     Ok(played)
 }
 
 /// A store sheet and a programme sheet, mostly good ones.
-fn random_sheets(random: &mut Random) -> (Vec<u8>, Vec<u8>) {
+pub fn random_sheets(random: &mut Random) -> (Vec<u8>, Vec<u8>) {
     let store = Store::random(random);
     let sheet = store.sheet();
     match random.below(20) {
@@ -160,7 +178,7 @@ fn random_sheets(random: &mut Random) -> (Vec<u8>, Vec<u8>) {
 }
 
 /// A run with enough budget and the output that the store sheet asks for.
-fn plain_run(store: &[u8], programme: &[u8], rule: u8) -> Run {
+pub fn plain_run(store: &[u8], programme: &[u8], rule: u8) -> Run {
     Run {
         store: store.to_vec(),
         programme: programme.to_vec(),
@@ -181,10 +199,15 @@ fn change_arguments(random: &mut Random, run: &mut Run) {
         run.output_length = other_length(random, run.output_length);
     }
     if random.one_in(30) {
-        run.rule = match random.one_in(2) {
-            true => random.pick(&[4, 5, 128, 254]),
-            false => random.byte(),
-        };
+        run.rule = other_rule(random);
+    }
+}
+
+/// Any rule number, mostly one that there is not.
+pub fn other_rule(random: &mut Random) -> u8 {
+    match random.one_in(2) {
+        true => random.pick(&[4, 5, 128, 254]),
+        false => random.byte(),
     }
 }
 
@@ -208,7 +231,7 @@ fn other_length(random: &mut Random, right: usize) -> usize {
 
 /// A budget around the steps that the run does when it has enough. One that
 /// has no end gets a large budget only now and then, since it takes long.
-fn random_budget(random: &mut Random, ample: Answer) -> u32 {
+pub fn random_budget(random: &mut Random, ample: Answer) -> u32 {
     let steps = ample.steps;
     let large = if ample.number == 17 && !random.one_in(200) {
         AMPLE
@@ -233,7 +256,7 @@ mod tests {
 
     #[test]
     fn every_answer_and_budget_comes_up() {
-        let played = play(DEFAULT_SEED, 5_000).expect("no difference");
+        let played = play(DEFAULT_SEED, 10_000).expect("no difference");
         let complaints = played.complaints();
         assert!(complaints.is_empty(), "{complaints:?}");
     }
@@ -299,7 +322,7 @@ mod tests {
     #[test]
     fn the_length_of_the_output_follows_the_sheet() {
         assert_eq!(wanted_output(&[]), 0);
-        assert_eq!(wanted_output(&[1, 2, 0]), 10);
-        assert_eq!(wanted_output(&[1, 0, 1, 9]), 1_280);
+        assert_eq!(wanted_output(&[1, 2, 0]), 2 * Value::WIDTH);
+        assert_eq!(wanted_output(&[1, 0, 1, 9]), 256 * Value::WIDTH);
     }
 }

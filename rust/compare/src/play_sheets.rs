@@ -4,6 +4,7 @@ use crate::author::{Author, Care};
 use crate::calls::{Call, Difference};
 use crate::code::programme_sheet;
 use crate::damage::damaged;
+use crate::high_bytes::HighBytes;
 use crate::lattices::MOST_PRINCIPALS;
 use crate::limits::{formless_programme, programme_at_limit};
 use crate::random::Random;
@@ -18,6 +19,7 @@ pub struct Played {
     store: Tally,
     table: Tally,
     programme: Tally,
+    pub high_bytes: HighBytes,
 }
 
 impl Played {
@@ -29,11 +31,18 @@ impl Played {
             store: tally("check_store", &[0, 1, 2, 3, 4, 5]),
             table: tally("check_table", &[0, 1, 2, 3, 4]),
             programme: tally("check_programme", &[0, 6, 7, 8, 9, 10]),
+            high_bytes: HighBytes::default(),
         }
     }
 
     pub fn tallies(&self) -> [&Tally; 3] {
         [&self.store, &self.table, &self.programme]
+    }
+
+    /// What is wrong with these counts, in words.
+    pub fn complaints(&self) -> Vec<String> {
+        let tallies = self.tallies().map(Tally::complaints).concat();
+        [tallies, self.high_bytes.complaints()].concat()
     }
 }
 
@@ -42,11 +51,12 @@ pub fn play(seed: u64, count: u64) -> Result<Played, Box<Difference>> {
     let mut played = Played::new();
     for case in 0..count {
         let call = random_call(&mut Random::of_case(seed, case));
-        let number = call.compare()?.answer.number;
+        let answer = call.compare()?.answer;
+        played.high_bytes.count(&call, answer);
         match call {
-            Call::CheckStore { .. } => played.store.count(number),
-            Call::CheckTable { .. } => played.table.count(number),
-            _ => played.programme.count(number),
+            Call::CheckStore { .. } => played.store.count(answer.number),
+            Call::CheckTable { .. } => played.table.count(answer.number),
+            _ => played.programme.count(answer.number),
         }
     }
     Ok(played)
@@ -64,7 +74,7 @@ fn random_call(random: &mut Random) -> Call {
     }
 }
 
-fn random_store(random: &mut Random) -> Vec<u8> {
+pub fn random_store(random: &mut Random) -> Vec<u8> {
     match random.below(20) {
         0..=4 => Store::random(random).bytes(),
         5 | 6 => flawed_store_sheet(random).bytes,
@@ -159,7 +169,7 @@ mod tests {
     #[test]
     fn every_verdict_comes_up() {
         let played = play(DEFAULT_SEED, 5_000).expect("no difference");
-        let complaints = played.tallies().map(Tally::complaints).concat();
+        let complaints = played.complaints();
         assert!(complaints.is_empty(), "{complaints:?}");
     }
 }

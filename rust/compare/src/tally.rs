@@ -77,9 +77,61 @@ impl Display for Tally {
     }
 }
 
+/// Things that must come up, by their names, and how often each did.
+#[derive(Debug, Clone)]
+pub struct Checklist {
+    name: &'static str,
+    counts: Vec<(String, u64)>,
+}
+
+impl Checklist {
+    pub fn new(name: &'static str, things: impl IntoIterator<Item = impl Display>) -> Checklist {
+        let things = things.into_iter();
+        let counts = things.map(|thing| (thing.to_string(), 0)).collect();
+        Checklist { name, counts }
+    }
+
+    /// Counts this one if it is on the list.
+    pub fn count(&mut self, thing: impl Display) {
+        let thing = thing.to_string();
+        let found = self.counts.iter_mut().filter(|(own, _)| *own == thing);
+        found.for_each(|(_, count)| *count += 1);
+    }
+
+    /// What never came up, in words.
+    pub fn complaints(&self) -> Vec<String> {
+        let missing = self.counts.iter().filter(|(_, count)| *count == 0);
+        missing
+            .map(|(thing, _)| format!("{}: {thing} never came up", self.name))
+            .collect()
+    }
+}
+
+/// The counts in a line, with their sum.
+impl Display for Checklist {
+    fn fmt(&self, out: &mut Formatter) -> fmt::Result {
+        let total: u64 = self.counts.iter().map(|(_, count)| count).sum();
+        let counts = self.counts.iter();
+        let cells: Vec<String> = counts
+            .map(|(thing, count)| format!("{thing}: {count}"))
+            .collect();
+        write!(out, "{} ({total})  {}", self.name, cells.join(", "))
+    }
+}
+
 #[cfg(test)]
 mod tests {
     use super::*;
+
+    #[test]
+    fn a_checklist_counts_what_is_on_it() {
+        let mut list = Checklist::new("sizes", [0, 256]);
+        [0, 7, 0].into_iter().for_each(|size| list.count(size));
+        assert_eq!(list.complaints(), ["sizes: 256 never came up"]);
+        list.count(256);
+        assert!(list.complaints().is_empty());
+        assert_eq!(list.to_string(), "sizes (3)  0: 2, 256: 1");
+    }
 
     #[test]
     fn complains_of_what_is_missing_and_of_what_cannot_be() {
