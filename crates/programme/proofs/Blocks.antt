@@ -1,30 +1,28 @@
--- Laws of the programme sheet's headers, lengths and blocks. Assumes nothing.
-use Prim.Native.Nat.{ℕ, zero, suc, _+_, _-_, _*_, _<_, _≤_}
-use mathlib.Core.Path.{_≡_, refl, sym, ap, ap₂, _∙_}
+-- Laws of the programme sheet's headers and blocks, and of the verdict on it. Assumes nothing.
+use Prim.Native.Nat.{ℕ, zero, suc, _+_, _<_, _≤_}
+use mathlib.Core.Path.{_≡_, refl, sym, ap, _∙_}
 use mathlib.Core.Bool.{true, false}
 use mathlib.Core.List.{List, _∷_}
-use mathlib.Core.Logic.{⊎-elim}
-use native.Mathlib.Nat.{eq-or-lt-of-le, le-of-suc-le-suc}
-use native.Mathlib.Numerals.{add-one}
 use native.Mathlib.Omega.{arith}
-use lib.ListN.{getD, length, drop, length-take}
+use lib.ListN.{length}
 use lib.Dec.{eqb}
 use borrow.Author.Tests.{lt-ltb, le-ltb, le-leb, lt-leb, eq-eqb, ne-eqb}
 use Rattle.lattice.specs.Tests.{_and_, every}
 use Rattle.store.specs.declared.Answer.{Answer}
 use Rattle.store.specs.Result.{Result, ok, refuse, _>>=_, require, refusedAs, unplaced}
 use Rattle.store.proofs.Result.{Post, Any, post-ok, post-bind, post-map, post-refused-as}
-use Rattle.store.specs.Bytes.{numberAt, part}
 use Rattle.store.specs.Sheet.{sizesWidth}
 use Rattle.programme.specs.declared.Header.{Header}
 use Rattle.programme.specs.declared.Reading.{Reading}
 use Rattle.programme.specs.declared.Reading.the-variants.{End, Refused}
 use Rattle.programme.specs.Syntax.{Cmd}
 use Rattle.programme.specs.Code.{Fault, readBlock}
-use Rattle.programme.specs.Sheet.{Block, mostBlocks, mostCode, kOf, cOf, lengthAt, codeAt, startOf, codeOf, headerAt, headerGood, inBlock, blockAt, blocksFrom, programmeSheet, verdictOf}
-use Rattle.programme.specs.Reading.{blockRead, blockReading, GoodLengths}
+use Rattle.programme.specs.Sheet.{Block, mostBlocks, mostCode, kOf, cOf, codeAt, startOf, codeOf, headerAt, headerGood, inBlock, blockAt, blocksFrom, programmeSheet, verdictOf}
+use Rattle.programme.specs.Reading.{blockRead, blockReading}
+use Rattle.programme.specs.Starts.{Stands}
 use Rattle.programme.proofs.Commands.{block-read}
 use Rattle.programme.proofs.Laid.{block-laid}
+use Rattle.programme.proofs.Starts.{lent, part-is, part-short}
 
 -- A header's region against n principals.
 module _ (n : ℕ) (h h′ : Header) (e : h ≡ h′) where
@@ -35,32 +33,6 @@ module _ (n : ℕ) (h h′ : Header) (e : h ≡ h′) where
   pub header-bad : n ≤ h .region → headerGood n h′ ≡ false
   unfolding headerGood
   header-bad l = rw (← e) (le-ltb _ _ l)
-
--- a block's length, read in two bytes
-pub length-read : (p : List ℕ) (k i r : ℕ) → ((j : ℕ) → getD p j 0 < 256) → k ≡ kOf p → r ≡ numberAt 2 p (sizesWidth + k + 2 * i)
-    → (r ≡ lengthAt p i) × (r < 65536)
-unfolding numberAt
-length-read p k i r b e h = (
-  h ∙ ap (λ (x : ℕ). numberAt 2 p (sizesWidth + x + 2 * i)) e,
-  omega (arith, h, b (sizesWidth + k + 2 * i), b (sizesWidth + k + 2 * i + 1)),
-)
-
-module _ (p : List ℕ) where
-  -- the running start
-  pub start-none : 0 ≡ startOf p 0
-  unfolding startOf
-  start-none = refl
-
-  pub start-more : (i s l : ℕ) → s ≡ startOf p i → l ≡ lengthAt p i → s + l ≡ startOf p (i + 1)
-  unfolding startOf
-  start-more i s l e h = rw add-one (ap₂ (λ (x y : ℕ). x + y) e h)
-
-  -- every block ends within all of them
-  pub start-within : (k i : ℕ) → i < k → startOf p i + lengthAt p i ≤ startOf p k
-  unfolding startOf
-  start-within zero i h = absurd (omega arith)
-  start-within (suc k) i h =
-      ⊎-elim (λ e. rw e (omega arith)) (λ l. omega (arith, start-within k i l)) (eq-or-lt-of-le (le-of-suc-le-suc h))
 
 -- What reading a block answers, against what judging it does.
 module _ (i : ℕ) (f : Cmd → Block) where
@@ -76,50 +48,20 @@ module _ (i : ℕ) (f : Cmd → Block) where
   verdict-bad n o (ok c) h = let y : _≡_ {A = ℕ} 0 1 = cc in absurd (omega arith)
   verdict-bad n o (refuse e) h = let x : n ≡ e .number = cc in let y : o ≡ e .offset = cc in rw (x, y)
 
-pub start-small : (p : List ℕ) (k i start : ℕ) → GoodLengths p k → i < k → start ≡ startOf p i → start ≤ mostCode
-start-small p k i start g h e = omega (arith, start-within p k i h, g .sum, g .small)
+-- x is what reading a block's part of the sheet answers
+module _ {p : List ℕ} {k i start next : ℕ} (w : Stands p k i start next) (m : ℕ) (x : Reading)
+    (r : x ≡ blockReading (blockRead m (lent p (codeAt k + start) (codeAt k + next)))) where
+  part-read : x ≡ blockReading (readBlock m (codeOf p i))
+  part-read = r ∙ ap blockReading (rw (part-is w) (block-read m (codeOf p i) (part-short w)))
 
--- what of a sheet is lent from `from` up to `to`
-abbrev pub lent : List ℕ → ℕ → ℕ → List ℕ
-lent p from to = part p from (to - from)
+  pub block-fine : (z : ℕ) → x ≡ End z → unplaced 0 ≡ verdictOf (blockAt m p i)
+  unfolding blockAt
+  block-fine z h = verdict-fine i _ z (readBlock m (codeOf p i)) (sym h ∙ part-read)
 
--- block i of a sheet whose lengths are good, its start in the code and its length
-pub record Stands (p : List ℕ) (k i start l : ℕ) : Type 0 where
-  pub good : GoodLengths p k
-  pub below : i < k
-  pub starts : start ≡ startOf p i
-  pub long : l ≡ lengthAt p i
-
-module _ {p : List ℕ} {k i start l : ℕ} (w : Stands p k i start l) where
-  -- its end in the code ..
-  pub end-small : start + l ≤ mostCode
-  end-small = omega (arith, start-within p k i (w .below), w .good .sum, w .good .small)
-
-  -- .. and in the sheet
-  pub part-within : codeAt k + start + l ≤ length p
-  part-within = omega (arith, start-within p k i (w .below), w .good .size, w .good .sum)
-
-  pub part-is : lent p (codeAt k + start) (codeAt k + start + l) ≡ codeOf p i
-  part-is =
-      let n : codeAt k + start + l - (codeAt k + start) ≡ lengthAt p i = omega arith in
-      rw n (ap₂ (λ (x y : ℕ). part p (codeAt x + y) (lengthAt p i)) (w .good .blocks) (w .starts))
-
-  pub part-short : length (codeOf p i) ≤ mostCode
-  part-short = omega (arith, end-small, length-take (lengthAt p i) (drop (codeAt (kOf p) + startOf p i) p))
-
-  -- x is what reading the block's part of the sheet answers
-  module _ (m : ℕ) (x : Reading) (r : x ≡ blockReading (blockRead m (lent p (codeAt k + start) (codeAt k + start + l)))) where
-    part-read : x ≡ blockReading (readBlock m (codeOf p i))
-    part-read = r ∙ ap blockReading (rw part-is (block-read m (codeOf p i) part-short))
-
-    pub block-fine : (z : ℕ) → x ≡ End z → unplaced 0 ≡ verdictOf (blockAt m p i)
-    unfolding blockAt
-    block-fine z h = verdict-fine i _ z (readBlock m (codeOf p i)) (sym h ∙ part-read)
-
-    pub block-bad : (n o : ℕ) → x ≡ Refused n o
-        → _≡_ {A = Answer} (record { number = n; block = i; offset = o; steps = 0 }) (verdictOf (blockAt m p i))
-    unfolding blockAt
-    block-bad n o h = verdict-bad i _ n o (readBlock m (codeOf p i)) (sym h ∙ part-read)
+  pub block-bad : (n o : ℕ) → x ≡ Refused n o
+      → _≡_ {A = Answer} (record { number = n; block = i; offset = o; steps = 0 }) (verdictOf (blockAt m p i))
+  unfolding blockAt
+  block-bad n o h = verdict-bad i _ n o (readBlock m (codeOf p i)) (sym h ∙ part-read)
 
 -- The blocks from the i-th on.
 verdict-map : {A B : Type 0} (f : A → B) (r : Result Answer A) → verdictOf (r >>= λ a. ok (f a)) ≡ verdictOf r

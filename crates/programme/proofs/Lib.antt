@@ -3,6 +3,7 @@ pub mod Values
 pub mod Commands
 pub mod Laid
 pub mod Held
+pub mod Starts
 pub mod Blocks
 pub mod Refusals
 pub mod Pairs

@@ -2,3 +2,4 @@ pub mod Syntax
 pub mod Code
 pub mod Sheet
 pub mod Reading
+pub mod Starts

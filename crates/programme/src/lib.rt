@@ -6,8 +6,9 @@ ghost use Rattle.lattice.specs.Tests.{every};
 ghost use Rattle.store.specs.Result.{unplaced};
 ghost use Rattle.programme.specs.Syntax.{marks, marksBody};
 ghost use Rattle.programme.specs.Code.{readValue, readExpr, readCmd, readBody, readAssign, readSeq, readIf, readWhile};
-ghost use Rattle.programme.specs.Sheet.{headerOf, headerAt, headerGood, kOf, lengthAt, startOf, blockAt, blocksFrom, programmeSheet, verdictOf, mostBlocks, mostCode, codeAt};
+ghost use Rattle.programme.specs.Sheet.{headerOf, headerAt, headerGood, lengthAt, blockAt, blocksFrom, programmeSheet, verdictOf, mostBlocks, mostCode, codeAt};
 ghost use Rattle.programme.specs.Reading.{Answers, Reads, blockRead, blockReading, BlockMarked, GoodLengths};
+ghost use Rattle.programme.specs.Starts.{RunningStart, Stands};
 use store::Answer;
 use store::Value;
 
@@ -20,6 +21,8 @@ pub struct Header {
 impl Header {
     // Added to the region's principal where the block is endorsed.
     pub const ENDORSED: u8 = 0x80;
+    // The bytes of a block's entries in the sheet's arrays, its length with them.
+    pub const WIDTH: usize = 3;
 }
 
 // The sizes at a programme sheet's start.
@@ -325,29 +328,29 @@ fn headers_good(sheet: &[u8], k: usize, n: usize) -> bool
     true
 }
 
-// The length of block i.
-fn length_at(sheet: &[u8], k: usize, i: usize) -> usize
-    requires { ⌜ (k ≡ kOf (now sheet)) × (k ≤ mostBlocks) × (i < k) ⌝ }
+// The length of block i. A block's number has one byte, as their count has; lengths past the sheet's end are 0.
+pub fn length_at(sheet: &[u8], i: u8) -> usize
     ensures { λ r. ⌜ (r ≡ lengthAt (now (sheet .entry)) i) × (r < 65536) ⌝ }
 {
-    store::number_at(sheet, Sizes::WIDTH + k + 2 * i, 2) as usize
+    let k = store::number_at(sheet, 0, 1) as usize;
+    store::number_at(sheet, Sizes::WIDTH + k + 2 * (i as usize), 2) as usize
 }
 
 // The lengths of all blocks, added up.
 fn lengths_sum(sheet: &[u8], k: usize) -> usize
-    requires { ⌜ (k ≡ kOf (now sheet)) × (k ≤ mostBlocks) ⌝ }
-    ensures { λ r. ⌜ r ≡ startOf (now (sheet .entry)) k ⌝ }
+    requires { ⌜ k ≤ mostBlocks ⌝ }
+    ensures { λ r. ⌜ RunningStart (now (sheet .entry)) k r ⌝ }
 {
     let mut sum = 0;
     let mut i = 0;
     while i < k {
-        sum += length_at(sheet, k, i);
+        sum += length_at(sheet, i as u8);
         i += 1;
     }
     sum
 }
 
-// Reads block i, whose code starts at `start` in the code.
+// Reads block i, whose code runs from `start` up to the next block's start.
 fn block_checked(
     sheet: &[u8],
     k: usize,
@@ -355,13 +358,13 @@ fn block_checked(
     ends: &mut [u16; 16384],
     i: usize,
     start: usize,
+    next: usize,
 ) -> Answer
-    requires { ⌜ GoodLengths (now sheet) k × (i < k) × (start ≡ startOf (now sheet) i) ⌝ }
+    requires { ⌜ Stands (now sheet) k i start next ⌝ }
     ensures { λ r. ⌜ r ≡ verdictOf (blockAt slots (now (sheet .entry)) i) ⌝ }
 {
-    let from = Sizes::WIDTH + 3 * k + start;
-    let to = from + length_at(sheet, k, i);
-    match read_block(&sheet[from..to], slots, ends) {
+    let code = Sizes::WIDTH + Header::WIDTH * k;
+    match read_block(&sheet[code + start..code + next], slots, ends) {
         Reading::End(_) => refused(0),
         Reading::Refused { number, at } => Answer {
             number,
@@ -372,7 +375,7 @@ fn block_checked(
     }
 }
 
-// Reads every block in turn, the running start being the lengths of those before it.
+// Reads every block in turn. Before each, `start` is the running start; its length is read and added once.
 fn blocks_checked(sheet: &[u8], k: usize, slots: usize, ends: &mut [u16; 16384]) -> Answer
     requires { ⌜ GoodLengths (now sheet) k ⌝ }
     ensures { λ r. ⌜ r ≡ verdictOf (blocksFrom slots (now (sheet .entry)) k 0) ⌝ }
@@ -380,11 +383,12 @@ fn blocks_checked(sheet: &[u8], k: usize, slots: usize, ends: &mut [u16; 16384])
     let mut start = 0;
     let mut i = 0;
     while i < k {
-        let answer = block_checked(sheet, k, slots, ends, i, start);
+        let next = start + length_at(sheet, i as u8);
+        let answer = block_checked(sheet, k, slots, ends, i, start, next);
         if answer.number != 0 {
             return answer;
         }
-        start += length_at(sheet, k, i);
+        start = next;
         i += 1;
     }
     refused(0)
@@ -416,7 +420,7 @@ fn sheet_checked(sheet: &[u8], n: usize, slots: usize, ends: &mut [u16; 16384]) 
     if Sizes::MOST_CODE < c {
         return refused(7);
     }
-    if sheet.len() != Sizes::WIDTH + 3 * k + c {
+    if sheet.len() != Sizes::WIDTH + Header::WIDTH * k + c {
         return refused(6);
     }
     if !headers_good(sheet, k, n) {

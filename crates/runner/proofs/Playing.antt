@@ -15,10 +15,11 @@ use Rattle.programme.specs.declared.Header.{Header}
 use Rattle.programme.specs.Syntax.{Cmd}
 use Rattle.programme.specs.Code.{readBlock}
 use Rattle.programme.specs.Reading.{blockRead, BlockMarked}
-use Rattle.programme.proofs.Blocks.{start-none, start-more, lent, Stands, part-is, part-short}
+use Rattle.programme.specs.Starts.{RunningStart, Stands}
+use Rattle.programme.proofs.Starts.{running-first, running-next, lent, part-is, part-short}
 use Rattle.programme.proofs.Commands.{block-read}
 use Rattle.programme.proofs.Held.{marks-length, block-held}
-use Rattle.programme.specs.Sheet.{mostCode, Block, headerAt, startOf, lengthAt, codeAt, codeOf, inBlock, blockAt, blocksFrom}
+use Rattle.programme.specs.Sheet.{mostCode, Block, headerAt, lengthAt, codeAt, codeOf, inBlock, blockAt, blocksFrom}
 use Rattle.calculus.specs.Rules.{RuleSet}
 use Rattle.calculus.specs.Calculus.{Setting, Store, State, Stop, exec}
 use Rattle.calculus.specs.Blocks.{Halt, haltIn, setting, runBlocks, start}
@@ -175,18 +176,14 @@ module _ (w : Tables) (rules : RuleSet) (budget slots : ℕ) (p : List ℕ) (k :
     played (Stopped e o m) d = played-stopped e o m d
 
 -- Block i, lent from the sheet with its header
-pub stands-at : {p : List ℕ} {k i begin slots : ℕ} {ends : List ℕ} {rows : List (List ℕ)} {t : Table} {j : Judges} {budget steps : ℕ} (l : ℕ)
-    → CanPlayAt p k i begin slots ends rows t j budget steps → l ≡ lengthAt p i → Stands p k i begin l
-stands-at l c e = record { good = c .plays .lengths; below = c .more; starts = c .starts; long = e }
-
-module _ {p : List ℕ} {k i begin l : ℕ} (z : Stands p k i begin l) (h : Header) (e : h ≡ headerAt p i) (slots : ℕ) (t : Table) (j : Judges) (budget steps : ℕ) (rows : List (List ℕ)) where
+module _ {p : List ℕ} {k i begin next : ℕ} (z : Stands p k i begin next) (h : Header) (e : h ≡ headerAt p i) (slots : ℕ) (t : Table) (j : Judges) (budget steps : ℕ) (rows : List (List ℕ)) where
   abbrev code : List ℕ
-  code = lent p (codeAt k + begin) (codeAt k + begin + l)
+  code = lent p (codeAt k + begin) (codeAt k + next)
 
   under-header : (w : Setting) → Under w t j (headerAt p i) budget → Under w t j h budget
   under-header w u = rw e u
 
-  pub at-can : (ends : List ℕ) → CanPlayAt p k i begin slots ends rows t j budget steps → CanPlay code h slots ends rows t j budget steps
+  pub at-can : (ends : List ℕ) → CanPlayAt p k i begin next slots ends rows t j budget steps → CanPlay code h slots ends rows t j budget steps
   at-can ends c =
       let n = nb (c .tables) (c .rules) budget slots p k i steps rows rows (c .whole) (z .below) (c .left) in
       record {
@@ -212,10 +209,10 @@ module _ {p : List ℕ} {k i begin l : ℕ} (z : Stands p k i begin l) (h : Head
       (f (setting w rules budget (record { header = headerAt p i; command = n .command })) (left .state) (n .command)
       (under-header _ (next-under w rules budget slots p k t j plays i (z .below) (n .command))) (record { store = left .held; steps = left .count }) (rw (part-is z) (n .reads)))
 
--- The loop over the blocks: before the i-th, its start is the lengths of those before, and what is left to play comes to the whole run.
+-- The loop over the blocks: before the i-th, the running start is carried, and what is left to play comes to the whole run.
 pub record Underway (p : List ℕ) (k slots : ℕ) (t : Table) (j : Judges) (budget : ℕ) (opening : List (List ℕ)) (rows : List (List ℕ)) (ends : List ℕ) (steps begin i : ℕ) : Type 0 where
   pub within : i ≤ k
-  pub starts : begin ≡ startOf p i
+  pub starts : RunningStart p i begin
   pub room : length ends ≡ mostCode
   pub left : (w : Tables) (rules : RuleSet) (s : Store) (bs : List Block) → Plays w rules budget p k slots t j → StoreHeld w s opening → blocksFrom slots p k 0 ≡ ok bs
       → LeftToPlay w rules budget slots p k i steps rows (runBlocks w rules budget 0 bs (start s))
@@ -223,19 +220,22 @@ pub record Underway (p : List ℕ) (k slots : ℕ) (t : Table) (j : Judges) (bud
 module _ {p : List ℕ} {k slots : ℕ} {t : Table} {j : Judges} {budget : ℕ} {opening : List (List ℕ)} where
   pub underway-start : (ends : List ℕ) → length ends ≡ mostCode → Underway p k slots t j budget opening opening ends 0 0 0
   underway-start ends h =
-      record { within = omega arith; starts = start-none p; room = h; left = λ w rules s bs _ held reads. left-all w rules budget slots p k bs s opening held reads }
+      record { within = omega arith; starts = running-first p; room = h; left = λ w rules s bs _ held reads. left-all w rules budget slots p k bs s opening held reads }
 
   module _ {rows : List (List ℕ)} {ends : List ℕ} {steps begin i : ℕ} (u : Underway p k slots t j budget opening rows ends steps begin i) where
-    pub underway-can : CanPlayAll p k slots opening t j budget → i < k → CanPlayAt p k i begin slots ends rows t j budget steps
-    underway-can c h =
+    -- the next block stands between the running start and the one that its length makes
+    pub underway-stands : CanPlayAll p k slots opening t j budget → i < k → (l : ℕ) → l ≡ lengthAt p i → Stands p k i begin (begin + l)
+    underway-stands c h l e = record { good = c .plays .lengths; below = h; from = u .starts; to = running-next p i begin l (u .starts) e }
+
+    pub underway-can : CanPlayAll p k slots opening t j budget → (next : ℕ) → Stands p k i begin next → CanPlayAt p k i begin next slots ends rows t j budget steps
+    underway-can c next z =
         record {
           tables = c .tables;
           rules = c .rules;
           plays = c .plays;
           whole = runBlocks (c .tables) (c .rules) budget 0 (c .blocks) (start (c .store));
           left = u .left (c .tables) (c .rules) (c .store) (c .blocks) (c .plays) (c .held) (c .reads);
-          more = h;
-          starts = u .starts;
+          stands = z;
           room = u .room;
         }
 
@@ -245,13 +245,13 @@ module _ {p : List ℕ} {k slots : ℕ} {t : Table} {j : Judges} {budget : ℕ} 
         (w : Tables) (rules : RuleSet) (whole : Result Halt State) → Plays w rules budget p k slots t j
         → LeftToPlay w rules budget slots p k i steps rows whole → PlayedAs w rules budget slots p k i rows′ r whole
 
-    pub underway-next : (rows′ : List (List ℕ)) (ends′ : List ℕ) (n l : ℕ) → i < k → length ends′ ≡ mostCode → l ≡ lengthAt p i → Plays-on rows′ (Done n)
-        → Underway p k slots t j budget opening rows′ ends′ n (begin + l) (i + 1)
+    pub underway-next : (rows′ : List (List ℕ)) (ends′ : List ℕ) (n next : ℕ) → Stands p k i begin next → length ends′ ≡ mostCode → Plays-on rows′ (Done n)
+        → Underway p k slots t j budget opening rows′ ends′ n next (i + 1)
     unfolding PlayedAs
-    underway-next rows′ ends′ n l h room e f =
+    underway-next rows′ ends′ n next z room f =
         record {
-          within = omega arith;
-          starts = start-more p i begin l (u .starts) e;
+          within = omega (arith, z .below);
+          starts = z .to;
           room = room;
           left = λ w rules s bs plays held reads. f w rules _ plays (u .left w rules s bs plays held reads);
         }

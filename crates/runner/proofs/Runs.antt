@@ -5,9 +5,8 @@ use mathlib.Core.Bool.{Bool, true, false, false≢true}
 use mathlib.Core.List.{List, [], _∷_, _++_}
 use native.Mathlib.Omega.{arith}
 use lib.ListN.{length, getD}
-use borrow.Author.Tests.{le-leb, lt-leb, leb-true, ltb-true, eqb-true, eq-eqb, ne-eqb}
+use borrow.Author.Tests.{le-leb, lt-leb, eq-eqb, ne-eqb}
 use Rattle.lattice.specs.Tests.{_and_}
-use Rattle.lattice.proofs.Tests.{and-l, and-r, every-at}
 use Rattle.store.specs.declared.Answer.{Answer}
 use Rattle.store.specs.declared.Opened.{Opened}
 use Rattle.store.specs.Result.{Result, ok, refuse, _>>=_, require, refusedAs, unplaced}
@@ -16,12 +15,10 @@ use Rattle.store.specs.Value.{Slot, emptySlot, slotWidth, slotBytes, valueBytes
 use Rattle.store.specs.Sheet.{Tables, Opening, ownerOf, mostSlots, storeSheet, slotsBytes}
 use Rattle.store.specs.Held.{openedOf, heldAfter, heldOf, rowOf, rowBytes, rowsBytes, roomChecked, outAfter}
 use Rattle.store.proofs.Result.{Post, Refuses, post-at, Positive}
-use Rattle.store.proofs.InTurn.{require-ok}
 use Rattle.store.proofs.Fill.{table-at}
 use Rattle.store.proofs.Bytes.{formed-more}
 use Rattle.store.proofs.Opening.{Opens, store-opens}
-use Rattle.programme.specs.Sheet.{Block, kOf, headerAt, headerGood, blocksFrom, programmeSheet, verdictOf}
-use Rattle.programme.specs.Reading.{GoodLengths}
+use Rattle.programme.specs.Sheet.{Block, kOf, blocksFrom, programmeSheet, verdictOf}
 use Rattle.calculus.specs.Rules.{RuleSet, rulesOf, judgesViews, judgesRegion}
 use Rattle.calculus.specs.Calculus.{Store, State}
 use Rattle.calculus.specs.Blocks.{Halt, haltAnswer, runBlocks, start, mostBudget}
@@ -32,34 +29,9 @@ use Rattle.runner.specs.declared.Ended.{Ended}
 use Rattle.runner.specs.declared.Ended.the-variants as e
 use Rattle.runner.specs.Held.{judgesLabels, judgesBranch, StoreHeld}
 use Rattle.runner.specs.Playing.{judgesOf, Plays, CanPlayAll, EndedAs, finished, halted, OpeningHeld, CanStart, CanFinish}
+use Rattle.programme.proofs.Starts.{programmed}
 use Rattle.programme.proofs.Refusals.{programme-refuses}
 use Rattle.runner.proofs.Playing.{next-block}
-
--- a programme sheet that is taken in
-pub record Programmed (n m : ℕ) (p : List ℕ) (bs : List Block) : Type 0 where
-  pub lengths : GoodLengths p (kOf p)
-  pub headers : (i : ℕ) → i < kOf p → headerAt p i .region < n
-  pub reads : blocksFrom m p (kOf p) 0 ≡ ok bs
-
-pub programmed : (n m : ℕ) (p : List ℕ) (bs : List Block) → programmeSheet n m p ≡ ok bs → Programmed n m p bs
-unfolding programmeSheet headerGood
-programmed n m p bs h =
-    let a = require-ok _ _ _ _ h .1 in
-    let b = require-ok _ _ _ _ a in
-    let c = require-ok _ _ _ _ (b .1) in
-    let d = require-ok _ _ _ _ (c .1) in
-    let e = require-ok _ _ _ _ (d .1) in
-    record {
-      lengths = record {
-        blocks = refl;
-        few = leb-true _ _ (and-l _ _ (b .0));
-        small = leb-true _ _ (and-r _ _ (b .0));
-        size = eqb-true _ _ (c .0);
-        sum = eqb-true _ _ (e .0);
-      };
-      headers = λ i l. ltb-true _ _ (every-at (kOf p) _ (d .0) i l);
-      reads = e .1;
-    }
 
 -- as many blocks as the sheet says
 pub blocks-count : (m : ℕ) (p : List ℕ) (n i : ℕ) (bs : List Block) → blocksFrom m p n i ≡ ok bs → length bs ≡ n

@@ -12,8 +12,9 @@ use Rattle.store.specs.Held.{Ordered, openedOf}
 use Rattle.programme.specs.declared.Header.{Header}
 use Rattle.programme.specs.Syntax.{Cmd}
 use Rattle.programme.specs.Code.{readBlock}
-use Rattle.programme.specs.Sheet.{Block, headerAt, mostCode, startOf, blocksFrom, programmeSheet}
+use Rattle.programme.specs.Sheet.{Block, headerAt, mostCode, blocksFrom, programmeSheet}
 use Rattle.programme.specs.Reading.{GoodLengths}
+use Rattle.programme.specs.Starts.{Stands}
 use Rattle.calculus.specs.Rules.{RuleSet, judgesViews, judgesRegion}
 use Rattle.calculus.specs.Calculus.{Setting, Store, State}
 use Rattle.calculus.specs.Blocks.{Halt, mostBudget, runBlocks}
@@ -96,14 +97,13 @@ pub record CanPlayAll (p : List ℕ) (k slots : ℕ) (rows : List (List ℕ)) (t
   pub blocks : List Block
   pub reads : blocksFrom slots p k 0 ≡ ok blocks
 
-pub record CanPlayAt (p : List ℕ) (k i begin slots : ℕ) (ends : List ℕ) (rows : List (List ℕ)) (t : Table) (j : Judges) (budget steps : ℕ) : Type 0 where
+pub record CanPlayAt (p : List ℕ) (k i begin next slots : ℕ) (ends : List ℕ) (rows : List (List ℕ)) (t : Table) (j : Judges) (budget steps : ℕ) : Type 0 where
   pub tables : Tables
   pub rules : RuleSet
   pub plays : Plays tables rules budget p k slots t j
   pub whole : Result Halt State
   pub left : LeftToPlay tables rules budget slots p k i steps rows whole
-  pub more : i < k
-  pub starts : begin ≡ startOf p i
+  pub stands : Stands p k i begin next
   pub room : length ends ≡ mostCode
 
 -- a store sheet that was opened

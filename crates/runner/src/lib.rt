@@ -19,7 +19,7 @@ ghost use Rattle.runner.specs.Answers.{Got, got, Ruling, ruling, Making,
 ghost use Rattle.runner.specs.Moves.{labelIn, StateHeld, RanAs, Entered, Left, CanEnter, CanGoOn, CanRun};
 ghost use Rattle.store.specs.Result.{Result, ok, unplaced};
 ghost use Rattle.programme.specs.Code.{readBlock};
-ghost use Rattle.programme.specs.Sheet.{Block, kOf, lengthAt, mostBlocks, mostCode, blocksFrom, programmeSheet};
+ghost use Rattle.programme.specs.Sheet.{Block, mostCode, blocksFrom, programmeSheet};
 ghost use Rattle.calculus.specs.Blocks.{Halt, runBlocks, start};
 ghost use Rattle.calculus.specs.Run.{runProgramme, runOpened, answerOf, outputOf, answer, output};
 ghost use Rattle.runner.specs.Playing.{judgesOf, Under, CanPlay, Plays, LeftToPlay, PlayedAs, CanPlayAll, CanPlayAt, EndedAs, OpeningHeld, CanStart, CanFinish};
@@ -795,20 +795,13 @@ fn play_block(
     run_block(code, ends, held, &masks, terms, steps)
 }
 
-// The length of block i.
-fn length_at(sheet: &[u8], k: usize, i: usize) -> usize
-    requires { ⌜ (k ≡ kOf (now sheet)) × (k ≤ mostBlocks) × (i < k) ⌝ }
-    ensures { λ r. ⌜ (r ≡ lengthAt (now (sheet .entry)) i) × (r < 65536) ⌝ }
-{
-    store::number_at(sheet, Sizes::WIDTH + k + 2 * i, 2) as usize
-}
-
-// Plays block i, whose code starts at `start` in the code.
+// Plays block i, whose code runs from `start` up to the next block's start.
 fn play_at(
     sheet: &[u8],
     k: usize,
     i: usize,
     start: usize,
+    next: usize,
     slots: usize,
     ends: &mut [u16; 16384],
     held: &mut [[u64; 3]; 256],
@@ -817,17 +810,16 @@ fn play_at(
     budget: u32,
     steps: u32,
 ) -> Ran
-    requires { ⌜ CanPlayAt (now sheet) k i start slots (now ends) (now held) table judges budget steps ⌝ }
+    requires { ⌜ CanPlayAt (now sheet) k i start next slots (now ends) (now held) table judges budget steps ⌝ }
     ensures { λ r. ⌜
         (length (now (ends .exit)) ≡ mostCode)
         × ((w : Tables) (rules : RuleSet) (whole : Result Halt State) → Plays w rules budget (now (sheet .entry)) k slots table judges → LeftToPlay w rules budget slots (now (sheet .entry)) k i steps (now (held .entry)) whole → PlayedAs w rules budget slots (now (sheet .entry)) k i (now (held .exit)) r whole)
         ⌝ }
 {
-    let from = Sizes::WIDTH + 3 * k + start;
-    let to = from + length_at(sheet, k, i);
+    let code = Sizes::WIDTH + Header::WIDTH * k;
     let header = programme::header_of(sheet[Sizes::WIDTH + i]);
     play_block(
-        &sheet[from..to],
+        &sheet[code + start..code + next],
         header,
         slots,
         ends,
@@ -839,7 +831,7 @@ fn play_at(
     )
 }
 
-// Plays the blocks in order. The running start is the lengths of those before.
+// Plays the blocks in order. Before each, `start` is the running start; its length is read and added once.
 fn run_blocks(
     sheet: &[u8],
     k: usize,
@@ -854,14 +846,16 @@ fn run_blocks(
 {
     let mut ends = [0u16; 16384];
     let mut steps: u32 = 0;
-    let mut begin = 0;
+    let mut start = 0;
     let mut i = 0;
     while i < k {
+        let next = start + programme::length_at(sheet, i as u8);
         match play_at(
             sheet,
             k,
             i,
-            begin,
+            start,
+            next,
             slots,
             &mut ends,
             held,
@@ -872,7 +866,7 @@ fn run_blocks(
         ) {
             Ran::Done(done) => {
                 steps = done;
-                begin += length_at(sheet, k, i);
+                start = next;
                 i += 1;
             }
             Ran::Stopped {

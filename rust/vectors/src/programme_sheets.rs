@@ -8,6 +8,8 @@ pub fn cases() -> Vec<Case> {
     cases.extend(sizes());
     cases.extend(regions());
     cases.extend(sums());
+    cases.extend(starts());
+    cases.extend(moved_starts());
     cases.extend(far_places());
     cases.push(full_size());
     cases
@@ -116,6 +118,58 @@ fn sums() -> Vec<Case> {
         said("lengths past two bytes", [0xFFFF, 3]),
         before_code("length sum before code", [1, 1, 1]),
         before_code("length sum past two bytes, before code", [1, 0xFFFF, 2]),
+    ]
+}
+
+const RUNNING: &str = "before each block it equals the lengths of all blocks before it";
+
+/// 64 blocks, no two of a length: skips, then a write of one's own number to
+/// a slot of one's own. A length that is skipped or added twice, or a sum that
+/// does not start at 0, makes other blocks of the same bytes.
+fn starts() -> Vec<Case> {
+    let block = |i: i64| {
+        let mut commands = vec![skip(); i as usize + 1];
+        commands.push(set_integer(i, i));
+        (0, sequence(&commands))
+    };
+    let blocks: Vec<(u8, Bytes)> = (0..64).map(block).collect();
+    let last = |code: Bytes| join_blocks(&blocks[..63], code);
+    let no_target = assign(literal(integer(0)), literal(integer(0)));
+    let case = |name| case(name, RUNNING).store(store(&[1], &vec![(0, integer(-1)); 64]));
+    vec![
+        case("64 lengths")
+            .blocks(&blocks)
+            .finishes(64, &(0..64).map(integer).collect::<Vec<_>>()),
+        case("64 lengths, the last block ill-formed")
+            .blocks(&last(sequence(&[skip(), vec![0x1F]])))
+            .refused(9, 63, 3, 0),
+        case("64 lengths, the last block stopped")
+            .blocks(&last(sequence(&[skip(), skip(), no_target])))
+            .refused(13, 63, 4, 63),
+    ]
+}
+
+/// The blocks, and one more of region 0.
+fn join_blocks(blocks: &[(u8, Bytes)], code: Bytes) -> Vec<(u8, Bytes)> {
+    let mut all = blocks.to_vec();
+    all.push((0, code));
+    all
+}
+
+/// Lengths that add up to c, but not where the commands end.
+fn moved_starts() -> Vec<Case> {
+    let early = "code that ends early (offset: the block's length)";
+    let blocks = [(0, skip()), (0, sequence(&[skip(), skip()])), (0, skip())];
+    let moved = |name, says, lengths: [usize; 3]| {
+        case(name, says).programme(programme_of_lengths(&blocks, &lengths))
+    };
+    vec![
+        moved("lengths 1 4 1", RUNNING, [1, 4, 1]).finishes(0, &opening()),
+        moved("lengths 2 3 1", RUNNING, [2, 3, 1]).refused(9, 0, 1, 0),
+        moved("lengths 1 5 0", RUNNING, [1, 5, 0]).refused(9, 1, 4, 0),
+        moved("lengths 1 3 2", early, [1, 3, 2]).refused(9, 1, 3, 0),
+        moved("lengths 0 5 1", early, [0, 5, 1]).refused(9, 0, 0, 0),
+        moved("lengths 1 0 5", early, [1, 0, 5]).refused(9, 1, 0, 0),
     ]
 }
 

@@ -1,44 +1,58 @@
-use Prim.Native.Nat.{_≤_, _-_}
+use Prim.Native.Nat.{_+_, _-_, _≤_}
+use denote.Ref.{now}
 use mathlib.Core.Path.{_≡_, sym, ap, _∙_}
 use native.Mathlib.Omega.{arith}
 use Rattle.store.specs.declared.Answer.{Answer}
-use Rattle.programme.specs.Sheet.{startOf, blocksFrom, verdictOf}
-use Rattle.programme.proofs.Blocks.{Stands, start-none, start-more, end-small, from-none, from-next, from-stop}
+use Rattle.programme.specs.Sheet.{blocksFrom, verdictOf}
+use Rattle.programme.specs.Starts.{RunningStart, Stands}
+use Rattle.programme.proofs.Starts.{running-first, running-next, start-small}
+use Rattle.programme.proofs.Blocks.{from-none, from-next, from-stop}
 use Rattle.programme.proofs.blocks_checked.Statement.{statement}
 use Rattle.programme.proofs.blocks_checked.Tie as tie
 
 abbrev Inv-loop : tie.InvT-loop
 Inv-loop sheet k slots ends₀ start₀ i₀ ends start i =
-    (i ≤ k) × (start ≡ startOf sheet i) × (verdictOf (blocksFrom slots sheet k 0) ≡ verdictOf (blocksFrom slots sheet (k - i) i))
+    (i ≤ k) × RunningStart sheet i start × (verdictOf (blocksFrom slots sheet k 0) ≡ verdictOf (blocksFrom slots sheet (k - i) i))
 
 abbrev μ-loop : tie.MeasureT-loop
 μ-loop sheet k slots ends₀ start₀ i₀ ends start i = k - i
 
 loop-holds : tie.Need-loop-holds Inv-loop μ-loop
-loop-holds c = let e : c .before .args .k - 0 ≡ c .before .args .k = omega arith in (omega arith, start-none _, rw e)
+loop-holds c = let e : c .before .args .k - 0 ≡ c .before .args .k = omega arith in (omega arith, running-first _, rw e)
+
+cast-length-at : tie.Need-cast-length-at Inv-loop μ-loop
+cast-length-at c = omega (arith, c .before .before .before .pre .few)
+
+length-at-requires : tie.Need-length-at-requires Inv-loop μ-loop
+length-at-requires c κs = tt
+
+add-next : tie.Need-add-next Inv-loop μ-loop
+add-next c =
+    let l = c .before .before in
+    omega (arith, start-small _ _ _ _ (l .before .before .pre) (omega arith) (l .loop .inv .1), c .length-at .ensures .1)
+
+-- the block between the running start and the one that its length makes
+stands : (c : tie.After-block-checked-arg Inv-loop μ-loop)
+    → let l = c .before .before .before in
+    Stands (now (l .before .before .args .sheet)) (l .before .before .args .k) (l .loop .i) (l .loop .start) (l .loop .start + c .before .length-at .result)
+stands c =
+    let l = c .before .before .before in
+    record {
+      good = l .before .before .pre;
+      below = omega arith;
+      from = l .loop .inv .1;
+      to = running-next _ _ _ _ (l .loop .inv .1) (c .before .length-at .ensures .0);
+    }
 
 block-checked-requires : tie.Need-block-checked-requires Inv-loop μ-loop
-block-checked-requires c κs = (c .before .before .before .before .pre, omega arith, c .before .before .loop .inv .1)
+block-checked-requires c κs = stands c
 
 returns : tie.Need-returns Inv-loop μ-loop
 returns c =
     let e = c .before .before .block-checked .ensures in
     e
-    ∙ sym (c .before .before .before .before .before .loop .inv .2
+    ∙ sym (c .before .before .before .before .before .before .loop .inv .2
     ∙ from-stop _ _ _ _ (omega arith) (λ z. c .if1 .taken (ap (λ (x : Answer). x .number) e ∙ z)))
-
-length-at-requires : tie.Need-length-at-requires Inv-loop μ-loop
-length-at-requires c κs = let g = c .before .before .before .before .before .before .before .pre in (g .blocks, g .few, omega arith)
-
-add-start : tie.Need-add-start Inv-loop μ-loop
-add-start c =
-    let w : Stands _ _ _ _ _ = record {
-      good = c .before .before .before .before .before .before .before .before .pre;
-      below = c .before .before .before .before .before .loop-test .taken;
-      starts = c .before .before .before .before .before .before .loop .inv .1;
-      long = c .length-at .ensures .0;
-    } in
-    omega (arith, end-small w)
 
 add-i : tie.Need-add-i Inv-loop μ-loop
 add-i c = omega arith
@@ -48,11 +62,12 @@ loop-less c = omega arith
 
 loop-again : tie.Need-loop-again Inv-loop μ-loop
 loop-again c =
-    let l = c .before .before .before .before .before .before .loop in
-    let e = c .before .before .before .block-checked .ensures in (
+    let a = c .before .before .before in
+    let e = c .before .before .block-checked .ensures in (
       omega arith,
-      start-more _ _ _ _ (l .inv .1) (c .length-at .ensures .0),
-      l .inv .2 ∙ from-next _ _ _ _ _ (omega arith) (ap (λ (x : Answer). x .number) (sym e) ∙ c .before .if1 .left),
+      stands a .to,
+      a .before .before .before .loop .inv .2
+          ∙ from-next _ _ _ _ _ (omega arith) (ap (λ (x : Answer). x .number) (sym e) ∙ c .if1 .left),
     )
 
 refused-requires : tie.Need-refused-requires Inv-loop μ-loop
@@ -68,10 +83,11 @@ blocks-checked-spec =
     Inv-loop
     μ-loop
     loop-holds
+    cast-length-at
+    length-at-requires
+    add-next
     block-checked-requires
     returns
-    length-at-requires
-    add-start
     add-i
     loop-less
     loop-again

@@ -88,7 +88,7 @@ returns-6 c =
     c .refused6 .ensures
     ∙ sheet-sum (sized (c .before .before .before .before .before)) _ _
     (sym (c .before .before .before .before .headers-good .ensures) ∙ not-false _ (c .before .before .before .if5 .left))
-    (λ h. c .before .if6 .taken (c .before .before .lengths-sum .ensures ∙ h))
+    (λ h. c .before .if6 .taken (c .before .before .lengths-sum .ensures .sum ∙ h))
 
 blocks-checked-requires : tie.Need-blocks-checked-requires
 blocks-checked-requires c κs = search needs
@@ -98,7 +98,7 @@ returns-7 c =
     c .blocks-checked .ensures
     ∙ sheet-blocks (sized (c .before .before .before .before .before .before)) _ _
     (sym (c .before .before .before .before .before .headers-good .ensures) ∙ not-false _ (c .before .before .before .before .if5 .left))
-    (sym (c .before .before .before .lengths-sum .ensures) ∙ c .before .before .if6 .left)
+    (sym (c .before .before .before .lengths-sum .ensures .sum) ∙ c .before .before .if6 .left)
 
 pub sheet-checked-spec : {M : Type 1} → statement M
 sheet-checked-spec =
