@@ -98,8 +98,9 @@ module _ (p : List ℕ) where
   start-within (suc k) i h =
       ⊎-elim (λ e. rw e (omega arith)) (λ l. omega (arith, start-within k i l)) (eq-or-lt-of-le (le-of-suc-le-suc h))
 
-  pub start-small : (k i start : ℕ) → GoodLengths p k → i < k → RunningStart p i start → start ≤ mostCode
-  start-small k i start g h r = omega (arith, start-within k i h, g .sum, g .small, r .sum)
+  -- a block stands between the running start and the one that its length makes
+  pub stands-next : (k i start l : ℕ) → GoodLengths p k → i < k → RunningStart p i start → l ≡ lengthAt p i → Stands p k i start (start + l)
+  stands-next k i start l g h r e = record { good = g; below = h; from = r; to = running-next i start l r e }
 
 -- the worked example
 pub three-worked : ThreeWorked

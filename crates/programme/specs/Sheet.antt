@@ -47,7 +47,8 @@ lengthAt p i = numberAt 2 p (sizesWidth + kOf p + 2 * i)
 abbrev pub codeAt : ℕ → ℕ
 codeAt k = sizesWidth + 3 * k
 
--- where the i-th block's code starts in the code: the lengths of all blocks before it, added up
+-- where the i-th block's code starts in the code: the lengths of all blocks before it, added up. It is the running sum of document 02, N4;
+-- what is promised of it stands in Starts.antt
 unfoldable pub startOf : List ℕ → ℕ → ℕ
 startOf p zero = 0
 startOf p (suc i) = startOf p i + lengthAt p i

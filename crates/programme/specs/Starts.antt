@@ -16,11 +16,12 @@ unfoldable pub leftAfter : List ℕ → ℕ → List ℕ
 leftAfter p zero = codeIn p
 leftAfter p (suc i) = drop (lengthAt p i) (leftAfter p i)
 
--- "before each block it equals the lengths of all blocks before it and is where that block's code starts": what the blocks before the i-th
--- leave of the code starts there, with the i-th block's own code in front
+-- "before each block it equals the lengths of all blocks before it and is where that block's code starts"
 pub record RunningStart (p : List ℕ) (i start : ℕ) : Type 0 where
   pub sum : start ≡ startOf p i
+  -- from there on the code is what the blocks before leave, ..
   pub left : drop start (codeIn p) ≡ leftAfter p i
+  -- .. with the block's own code in front
   pub code : part (codeIn p) start (lengthAt p i) ≡ codeOf p i
 
 -- The promise, for every sheet: the sum is 0 before the first block, and "each length is added to it once". Where the sheet is taken in, the

@@ -16,10 +16,10 @@ use Rattle.programme.specs.Syntax.{Cmd}
 use Rattle.programme.specs.Code.{readBlock}
 use Rattle.programme.specs.Reading.{blockRead, BlockMarked}
 use Rattle.programme.specs.Starts.{RunningStart, Stands}
-use Rattle.programme.proofs.Starts.{running-first, running-next, lent, part-is, part-short}
+use Rattle.programme.proofs.Starts.{running-first, lent, part-is, part-short}
 use Rattle.programme.proofs.Commands.{block-read}
 use Rattle.programme.proofs.Held.{marks-length, block-held}
-use Rattle.programme.specs.Sheet.{mostCode, Block, headerAt, lengthAt, codeAt, codeOf, inBlock, blockAt, blocksFrom}
+use Rattle.programme.specs.Sheet.{mostCode, Block, headerAt, codeAt, codeOf, inBlock, blockAt, blocksFrom}
 use Rattle.calculus.specs.Rules.{RuleSet}
 use Rattle.calculus.specs.Calculus.{Setting, Store, State, Stop, exec}
 use Rattle.calculus.specs.Blocks.{Halt, haltIn, setting, runBlocks, start}
@@ -223,10 +223,6 @@ module _ {p : List ℕ} {k slots : ℕ} {t : Table} {j : Judges} {budget : ℕ} 
       record { within = omega arith; starts = running-first p; room = h; left = λ w rules s bs _ held reads. left-all w rules budget slots p k bs s opening held reads }
 
   module _ {rows : List (List ℕ)} {ends : List ℕ} {steps begin i : ℕ} (u : Underway p k slots t j budget opening rows ends steps begin i) where
-    -- the next block stands between the running start and the one that its length makes
-    pub underway-stands : CanPlayAll p k slots opening t j budget → i < k → (l : ℕ) → l ≡ lengthAt p i → Stands p k i begin (begin + l)
-    underway-stands c h l e = record { good = c .plays .lengths; below = h; from = u .starts; to = running-next p i begin l (u .starts) e }
-
     pub underway-can : CanPlayAll p k slots opening t j budget → (next : ℕ) → Stands p k i begin next → CanPlayAt p k i begin next slots ends rows t j budget steps
     underway-can c next z =
         record {

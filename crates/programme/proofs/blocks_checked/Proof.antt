@@ -5,7 +5,7 @@ use native.Mathlib.Omega.{arith}
 use Rattle.store.specs.declared.Answer.{Answer}
 use Rattle.programme.specs.Sheet.{blocksFrom, verdictOf}
 use Rattle.programme.specs.Starts.{RunningStart, Stands}
-use Rattle.programme.proofs.Starts.{running-first, running-next, start-small}
+use Rattle.programme.proofs.Starts.{running-first, stands-next, end-small}
 use Rattle.programme.proofs.Blocks.{from-none, from-next, from-stop}
 use Rattle.programme.proofs.blocks_checked.Statement.{statement}
 use Rattle.programme.proofs.blocks_checked.Tie as tie
@@ -26,26 +26,16 @@ cast-length-at c = omega (arith, c .before .before .before .pre .few)
 length-at-requires : tie.Need-length-at-requires Inv-loop μ-loop
 length-at-requires c κs = tt
 
-add-next : tie.Need-add-next Inv-loop μ-loop
-add-next c =
-    let l = c .before .before in
-    omega (arith, start-small _ _ _ _ (l .before .before .pre) (omega arith) (l .loop .inv .1), c .length-at .ensures .1)
+stands : (c : tie.After-length-at Inv-loop μ-loop)
+    → let l = c .before .before in
+    Stands (now (l .before .before .args .sheet)) (l .before .before .args .k) (l .loop .i) (l .loop .start) (l .loop .start + c .length-at .result)
+stands c = let l = c .before .before in stands-next _ _ _ _ _ (l .before .before .pre) (omega arith) (l .loop .inv .1) (c .length-at .ensures .0)
 
--- the block between the running start and the one that its length makes
-stands : (c : tie.After-block-checked-arg Inv-loop μ-loop)
-    → let l = c .before .before .before in
-    Stands (now (l .before .before .args .sheet)) (l .before .before .args .k) (l .loop .i) (l .loop .start) (l .loop .start + c .before .length-at .result)
-stands c =
-    let l = c .before .before .before in
-    record {
-      good = l .before .before .pre;
-      below = omega arith;
-      from = l .loop .inv .1;
-      to = running-next _ _ _ _ (l .loop .inv .1) (c .before .length-at .ensures .0);
-    }
+add-next : tie.Need-add-next Inv-loop μ-loop
+add-next c = omega (arith, end-small (stands c))
 
 block-checked-requires : tie.Need-block-checked-requires Inv-loop μ-loop
-block-checked-requires c κs = stands c
+block-checked-requires c κs = stands (c .before)
 
 returns : tie.Need-returns Inv-loop μ-loop
 returns c =
@@ -62,11 +52,11 @@ loop-less c = omega arith
 
 loop-again : tie.Need-loop-again Inv-loop μ-loop
 loop-again c =
-    let a = c .before .before .before in
+    let a = c .before .before .before .before in
     let e = c .before .before .block-checked .ensures in (
       omega arith,
       stands a .to,
-      a .before .before .before .loop .inv .2
+      a .before .before .loop .inv .2
           ∙ from-next _ _ _ _ _ (omega arith) (ap (λ (x : Answer). x .number) (sym e) ∙ c .if1 .left),
     )
 

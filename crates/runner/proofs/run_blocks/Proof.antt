@@ -4,8 +4,8 @@ use borrow.Author.Needs.{needs}
 use native.Mathlib.Omega.{arith}
 use lib.ListN.{length-replicate}
 use Rattle.programme.specs.Starts.{Stands}
-use Rattle.programme.proofs.Starts.{start-small}
-use Rattle.runner.proofs.Playing.{Underway, underway-start, underway-stands, underway-can, underway-next, underway-stop, underway-end}
+use Rattle.programme.proofs.Starts.{stands-next, end-small}
+use Rattle.runner.proofs.Playing.{Underway, underway-start, underway-can, underway-next, underway-stop, underway-end}
 use Rattle.runner.proofs.run_blocks.Statement.{statement}
 use Rattle.runner.proofs.run_blocks.Tie as tie
 
@@ -25,23 +25,21 @@ cast-length-at c = omega (arith, c .before .before .before .pre .plays .lengths 
 length-at-requires : tie.Need-length-at-requires Inv-loop μ-loop
 length-at-requires c κs = tt
 
-add-next : tie.Need-add-next Inv-loop μ-loop
-add-next c =
-    let l = c .before .before in
-    omega (arith, start-small _ _ _ _ (l .before .before .pre .plays .lengths) (omega arith) (l .loop .inv .starts), c .length-at .ensures .1)
-
--- the block between the running start and the one that its length makes
-stands : (c : tie.After-play-at-arg Inv-loop μ-loop)
-    → let l = c .before .before .before .before in
-    Stands (now (l .before .before .args .sheet)) (l .before .before .args .k) (l .loop .i) (l .loop .start) (l .loop .start + c .before .before .length-at .result)
+stands : (c : tie.After-length-at Inv-loop μ-loop)
+    → let l = c .before .before in
+    Stands (now (l .before .before .args .sheet)) (l .before .before .args .k) (l .loop .i) (l .loop .start) (l .loop .start + c .length-at .result)
 stands c =
-    let l = c .before .before .before .before in
-    underway-stands (l .loop .inv) (l .before .before .pre) (omega arith) _ (c .before .before .length-at .ensures .0)
+    let l = c .before .before in
+    stands-next _ _ _ _ _ (l .before .before .pre .plays .lengths) (omega arith) (l .loop .inv .starts) (c .length-at .ensures .0)
+
+add-next : tie.Need-add-next Inv-loop μ-loop
+add-next c = omega (arith, end-small (stands c))
 
 play-at-requires : tie.Need-play-at-requires Inv-loop μ-loop
 play-at-requires c κs =
-    let l = c .before .before .before .before in
-    underway-can (l .loop .inv) (l .before .before .pre) _ (stands c)
+    let a = c .before .before in
+    let l = a .before .before in
+    underway-can (l .loop .inv) (l .before .before .pre) _ (stands a)
 
 enum-known-done : tie.Need-enum-known-done Inv-loop μ-loop
 enum-known-done c = search needs
@@ -55,8 +53,8 @@ loop-less c = omega arith
 loop-again : tie.Need-loop-again Inv-loop μ-loop
 loop-again c =
     let m = c .before .before .before in
-    let a = m .before in
-    underway-next (a .before .before .before .before .loop .inv) _ _ _ _ (stands a) (m .play-at .ensures .0) (rw (c .before .done .given .1) at (m .play-at .ensures .1))
+    let a = m .before .before .before in
+    underway-next (a .before .before .loop .inv) _ _ _ _ (stands a) (m .play-at .ensures .0) (rw (c .before .done .given .1) at (m .play-at .ensures .1))
 
 enum-known-number : tie.Need-enum-known-number Inv-loop μ-loop
 enum-known-number c = search needs
