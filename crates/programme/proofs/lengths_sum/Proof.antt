@@ -1,6 +1,5 @@
-use Prim.Native.Nat.{ℕ, _≤_, _-_, _*_}
-use mathlib.Core.Path.{_≡_, ap, _∙_}
-use denote.Ref.{now}
+use Prim.Native.Nat.{_≤_, _-_, _*_}
+use mathlib.Core.Path.{_≡_}
 use native.Mathlib.Omega.{arith}
 use Rattle.programme.specs.Starts.{RunningStart}
 use Rattle.programme.proofs.Starts.{running-first, running-next}
