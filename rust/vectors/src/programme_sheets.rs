@@ -1,7 +1,11 @@
-//! What is wrong with a programme sheet (6 to 8), and what just is not.
+//! What is wrong with a programme sheet (6 to 8), what just is not, and where
+//! its blocks start.
 
 use crate::case::{case, Case};
 use crate::common::*;
+
+/// Document 02, N4.
+const RUNNING: &str = "before each block it equals the lengths of all blocks before it";
 
 pub fn cases() -> Vec<Case> {
     let mut cases = lengths();
@@ -121,8 +125,6 @@ fn sums() -> Vec<Case> {
     ]
 }
 
-const RUNNING: &str = "before each block it equals the lengths of all blocks before it";
-
 /// 64 blocks, no two of a length: skips, then a write of one's own number to
 /// a slot of one's own. A length that is skipped or added twice, or a sum that
 /// does not start at 0, makes other blocks of the same bytes.
@@ -133,7 +135,7 @@ fn starts() -> Vec<Case> {
         (0, sequence(&commands))
     };
     let blocks: Vec<(u8, Bytes)> = (0..64).map(block).collect();
-    let last = |code: Bytes| join_blocks(&blocks[..63], code);
+    let last = |code| [&blocks[..63], &[(0, code)]].concat();
     let no_target = assign(literal(integer(0)), literal(integer(0)));
     let case = |name| case(name, RUNNING).store(store(&[1], &vec![(0, integer(-1)); 64]));
     vec![
@@ -147,13 +149,6 @@ fn starts() -> Vec<Case> {
             .blocks(&last(sequence(&[skip(), skip(), no_target])))
             .refused(13, 63, 4, 63),
     ]
-}
-
-/// The blocks, and one more of region 0.
-fn join_blocks(blocks: &[(u8, Bytes)], code: Bytes) -> Vec<(u8, Bytes)> {
-    let mut all = blocks.to_vec();
-    all.push((0, code));
-    all
 }
 
 /// Lengths that add up to c, but not where the commands end.
