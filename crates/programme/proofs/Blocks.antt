@@ -18,8 +18,7 @@ use Rattle.programme.specs.declared.Reading.the-variants.{End, Refused}
 use Rattle.programme.specs.Syntax.{Cmd}
 use Rattle.programme.specs.Code.{Fault, readBlock}
 use Rattle.programme.specs.Sheet.{Block, mostBlocks, mostCode, kOf, cOf, codeAt, startOf, codeOf, headerAt, headerGood, inBlock, blockAt, blocksFrom, programmeSheet, verdictOf}
-use Rattle.programme.specs.Reading.{blockRead, blockReading}
-use Rattle.programme.specs.Starts.{Stands}
+use Rattle.programme.specs.Reading.{blockRead, blockReading, Stands}
 use Rattle.programme.proofs.Commands.{block-read}
 use Rattle.programme.proofs.Laid.{block-laid}
 use Rattle.programme.proofs.Starts.{lent, part-is, part-short}

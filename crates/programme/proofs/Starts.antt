@@ -1,4 +1,4 @@
--- Laws of the running start: the lengths of the blocks before, and where the next block's code starts. Assumes nothing.
+-- Laws of a block's length as it is read, of a sheet that is taken in, and of the running start. Assumes nothing.
 use Prim.Native.Nat.{ℕ, zero, suc, _+_, _-_, _*_, _<_, _≤_}
 use mathlib.Core.Path.{_≡_, refl, sym, ap, ap₂, _∙_}
 use mathlib.Core.List.{List, []}
@@ -15,8 +15,8 @@ use Rattle.store.proofs.InTurn.{require-ok}
 use Rattle.store.specs.Bytes.{numberAt, part, table}
 use Rattle.store.specs.Sheet.{sizesWidth}
 use Rattle.programme.specs.Sheet.{Block, mostCode, kOf, cOf, lengthAt, codeAt, startOf, codeOf, headerAt, headerGood, blocksFrom, programmeSheet}
-use Rattle.programme.specs.Reading.{GoodLengths}
-use Rattle.programme.specs.Starts.{codeIn, leftAfter, RunningStart, RunningStarts, ThreeWorked, Stands}
+use Rattle.programme.specs.Starts.{codeIn, leftAfter, RunningStart, RunningStarts, ThreeWorked}
+use Rattle.programme.specs.Reading.{GoodLengths, Stands}
 
 -- the number of blocks has one byte, a block's length two
 pub count-small : (p : List ℕ) (k : ℕ) → ((j : ℕ) → getD p j 0 < 256) → k ≡ kOf p → k < 256
@@ -65,10 +65,10 @@ module _ (p : List ℕ) where
   left-at (suc i) = sym (drop-drop (lengthAt p i) (startOf p i) (codeIn p)) ∙ ap (drop (lengthAt p i)) (left-at i)
 
   -- the sum of the lengths is the running start
-  pub running : (i start : ℕ) → start ≡ startOf p i → RunningStart p i start
+  running : (i start : ℕ) → start ≡ startOf p i → RunningStart p i start
   running i start e =
       rw e
-      (record { sum = refl; left = left-at i; code = ap (take (lengthAt p i)) (drop-drop (startOf p i) (codeAt (kOf p)) p) })
+      (record { sum = refl; left = left-at i; code = ap (take (lengthAt p i)) (sym (left-at i) ∙ drop-drop (startOf p i) (codeAt (kOf p)) p) })
 
   pub running-first : RunningStart p 0 0
   unfolding startOf
@@ -79,7 +79,7 @@ module _ (p : List ℕ) where
   running-next i start l r h = running (i + 1) (start + l) (rw add-one (ap₂ (λ (x y : ℕ). x + y) (r .sum) h))
 
   -- after the last block of a sheet whose lengths are good
-  pub running-last : (k : ℕ) → GoodLengths p k → RunningStart p k (cOf p) × (leftAfter p k ≡ [])
+  running-last : (k : ℕ) → GoodLengths p k → RunningStart p k (cOf p) × (leftAfter p k ≡ [])
   running-last k g =
       let r = running k (cOf p) (sym (g .sum)) in
       (r, sym (r .left) ∙ drop-of-length-le (codeIn p) {i = cOf p} (omega (arith, length-drop (codeAt (kOf p)) p, g .size, g .blocks)))
@@ -130,7 +130,7 @@ module _ {p : List ℕ} {k i start next : ℕ} (w : Stands p k i start next) whe
   pub part-is : lent p (codeAt k + start) (codeAt k + next) ≡ codeOf p i
   part-is =
       let n : codeAt k + next - (codeAt k + start) ≡ lengthAt p i = omega (arith, starts-next) in
-      rw (n, w .good .blocks) (ap (take (lengthAt p i)) (sym (drop-drop start (codeAt (kOf p)) p)) ∙ w .from .code)
+      rw (n, w .good .blocks) (ap (take (lengthAt p i)) (sym (drop-drop start (codeAt (kOf p)) p) ∙ w .from .left) ∙ w .from .code)
 
   pub part-short : length (codeOf p i) ≤ mostCode
   part-short = omega (arith, starts-next, end-small, length-take (lengthAt p i) (drop (codeAt (kOf p) + startOf p i) p))

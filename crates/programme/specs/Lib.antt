@@ -1,5 +1,5 @@
 pub mod Syntax
 pub mod Code
 pub mod Sheet
-pub mod Reading
 pub mod Starts
+pub mod Reading

@@ -1,5 +1,5 @@
 -- What the code reader answers, and what it leaves in the side table. Assumes nothing.
-use Prim.Native.Nat.{ℕ, _+_, _≤_}
+use Prim.Native.Nat.{ℕ, _+_, _<_, _≤_}
 use mathlib.Core.Path.{_≡_}
 use mathlib.Core.List.{List}
 use lib.ListN.{length}
@@ -10,6 +10,7 @@ use Rattle.programme.specs.declared.Reading.the-variants.{End, Refused}
 use Rattle.programme.specs.Syntax.{Cmd, endOf, marks}
 use Rattle.programme.specs.Code.{Fault, Read, readBlock}
 use Rattle.programme.specs.Sheet.{mostBlocks, mostCode, kOf, cOf, codeAt, startOf}
+use Rattle.programme.specs.Starts.{RunningStart}
 
 -- the end of what was read, or the refusal with its offset
 unfoldable pub readingOf : {A : Type 0} → Result Fault (Read A) → Reading
@@ -55,3 +56,10 @@ pub record GoodLengths (p : List ℕ) (k : ℕ) : Type 0 where
   pub small : cOf p ≤ mostCode
   pub size : length p ≡ codeAt k + cOf p
   pub sum : startOf p k ≡ cOf p
+
+-- block i of such a sheet, between two running starts: its own, and the one before the next block
+pub record Stands (p : List ℕ) (k i start next : ℕ) : Type 0 where
+  pub good : GoodLengths p k
+  pub below : i < k
+  pub from : RunningStart p i start
+  pub to : RunningStart p (i + 1) next

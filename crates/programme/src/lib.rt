@@ -7,8 +7,8 @@ ghost use Rattle.store.specs.Result.{unplaced};
 ghost use Rattle.programme.specs.Syntax.{marks, marksBody};
 ghost use Rattle.programme.specs.Code.{readValue, readExpr, readCmd, readBody, readAssign, readSeq, readIf, readWhile};
 ghost use Rattle.programme.specs.Sheet.{headerOf, headerAt, headerGood, lengthAt, blockAt, blocksFrom, programmeSheet, verdictOf, mostBlocks, mostCode, codeAt};
-ghost use Rattle.programme.specs.Reading.{Answers, Reads, blockRead, blockReading, BlockMarked, GoodLengths};
-ghost use Rattle.programme.specs.Starts.{RunningStart, Stands};
+ghost use Rattle.programme.specs.Reading.{Answers, Reads, blockRead, blockReading, BlockMarked, GoodLengths, Stands};
+ghost use Rattle.programme.specs.Starts.{RunningStart};
 use store::Answer;
 use store::Value;
 
@@ -21,8 +21,6 @@ pub struct Header {
 impl Header {
     // Added to the region's principal where the block is endorsed.
     pub const ENDORSED: u8 = 0x80;
-    // The bytes of a block's entries in the sheet's arrays, its length with them.
-    pub const WIDTH: usize = 3;
 }
 
 // The sizes at a programme sheet's start.
@@ -34,6 +32,8 @@ pub struct Sizes {
 impl Sizes {
     // The bytes of the sizes.
     pub const WIDTH: usize = 3;
+    // The bytes of a block's entries in the arrays: its region and its length.
+    pub const ENTRIES: usize = 3;
 
     pub const MOST_BLOCKS: usize = 64;
 
@@ -328,7 +328,7 @@ fn headers_good(sheet: &[u8], k: usize, n: usize) -> bool
     true
 }
 
-// The length of block i. A block's number has one byte, as their count has; lengths past the sheet's end are 0.
+// The length of block i; for i not below k, what stands there. Bytes past the sheet's end are 0. As i has one byte, no place overflows.
 pub fn length_at(sheet: &[u8], i: u8) -> usize
     ensures { λ r. ⌜ (r ≡ lengthAt (now (sheet .entry)) i) × (r < 65536) ⌝ }
 {
@@ -350,7 +350,7 @@ fn lengths_sum(sheet: &[u8], k: usize) -> usize
     sum
 }
 
-// Reads block i, whose code runs from `start` up to the next block's start.
+// Reads block i, whose code runs from `start` up to `next`, where the next block's starts.
 fn block_checked(
     sheet: &[u8],
     k: usize,
@@ -363,7 +363,7 @@ fn block_checked(
     requires { ⌜ Stands (now sheet) k i start next ⌝ }
     ensures { λ r. ⌜ r ≡ verdictOf (blockAt slots (now (sheet .entry)) i) ⌝ }
 {
-    let code = Sizes::WIDTH + Header::WIDTH * k;
+    let code = Sizes::WIDTH + Sizes::ENTRIES * k;
     match read_block(&sheet[code + start..code + next], slots, ends) {
         Reading::End(_) => refused(0),
         Reading::Refused { number, at } => Answer {
@@ -375,7 +375,7 @@ fn block_checked(
     }
 }
 
-// Reads every block in turn. Before each, `start` is the running start; its length is read and added once.
+// Reads every block in turn. Before each, `start` is the running start; each block's length is read and added once.
 fn blocks_checked(sheet: &[u8], k: usize, slots: usize, ends: &mut [u16; 16384]) -> Answer
     requires { ⌜ GoodLengths (now sheet) k ⌝ }
     ensures { λ r. ⌜ r ≡ verdictOf (blocksFrom slots (now (sheet .entry)) k 0) ⌝ }
@@ -420,7 +420,7 @@ fn sheet_checked(sheet: &[u8], n: usize, slots: usize, ends: &mut [u16; 16384]) 
     if Sizes::MOST_CODE < c {
         return refused(7);
     }
-    if sheet.len() != Sizes::WIDTH + Header::WIDTH * k + c {
+    if sheet.len() != Sizes::WIDTH + Sizes::ENTRIES * k + c {
         return refused(6);
     }
     if !headers_good(sheet, k, n) {

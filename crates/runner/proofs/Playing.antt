@@ -14,8 +14,8 @@ use Rattle.store.proofs.Result.{post-at}
 use Rattle.programme.specs.declared.Header.{Header}
 use Rattle.programme.specs.Syntax.{Cmd}
 use Rattle.programme.specs.Code.{readBlock}
-use Rattle.programme.specs.Reading.{blockRead, BlockMarked}
-use Rattle.programme.specs.Starts.{RunningStart, Stands}
+use Rattle.programme.specs.Starts.{RunningStart}
+use Rattle.programme.specs.Reading.{blockRead, BlockMarked, Stands}
 use Rattle.programme.proofs.Starts.{running-first, lent, part-is, part-short}
 use Rattle.programme.proofs.Commands.{block-read}
 use Rattle.programme.proofs.Held.{marks-length, block-held}

@@ -13,8 +13,7 @@ use Rattle.programme.specs.declared.Header.{Header}
 use Rattle.programme.specs.Syntax.{Cmd}
 use Rattle.programme.specs.Code.{readBlock}
 use Rattle.programme.specs.Sheet.{Block, headerAt, mostCode, blocksFrom, programmeSheet}
-use Rattle.programme.specs.Reading.{GoodLengths}
-use Rattle.programme.specs.Starts.{Stands}
+use Rattle.programme.specs.Reading.{GoodLengths, Stands}
 use Rattle.calculus.specs.Rules.{RuleSet, judgesViews, judgesRegion}
 use Rattle.calculus.specs.Calculus.{Setting, Store, State}
 use Rattle.calculus.specs.Blocks.{Halt, mostBudget, runBlocks}
@@ -97,13 +96,13 @@ pub record CanPlayAll (p : List ℕ) (k slots : ℕ) (rows : List (List ℕ)) (t
   pub blocks : List Block
   pub reads : blocksFrom slots p k 0 ≡ ok blocks
 
-pub record CanPlayAt (p : List ℕ) (k i begin next slots : ℕ) (ends : List ℕ) (rows : List (List ℕ)) (t : Table) (j : Judges) (budget steps : ℕ) : Type 0 where
+pub record CanPlayAt (p : List ℕ) (k i start next slots : ℕ) (ends : List ℕ) (rows : List (List ℕ)) (t : Table) (j : Judges) (budget steps : ℕ) : Type 0 where
   pub tables : Tables
   pub rules : RuleSet
   pub plays : Plays tables rules budget p k slots t j
   pub whole : Result Halt State
   pub left : LeftToPlay tables rules budget slots p k i steps rows whole
-  pub stands : Stands p k i begin next
+  pub stands : Stands p k i start next
   pub room : length ends ≡ mostCode
 
 -- a store sheet that was opened

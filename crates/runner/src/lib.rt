@@ -795,7 +795,7 @@ fn play_block(
     run_block(code, ends, held, &masks, terms, steps)
 }
 
-// Plays block i, whose code runs from `start` up to the next block's start.
+// Plays block i, whose code runs from `start` up to `next`, where the next block's starts.
 fn play_at(
     sheet: &[u8],
     k: usize,
@@ -816,7 +816,7 @@ fn play_at(
         × ((w : Tables) (rules : RuleSet) (whole : Result Halt State) → Plays w rules budget (now (sheet .entry)) k slots table judges → LeftToPlay w rules budget slots (now (sheet .entry)) k i steps (now (held .entry)) whole → PlayedAs w rules budget slots (now (sheet .entry)) k i (now (held .exit)) r whole)
         ⌝ }
 {
-    let code = Sizes::WIDTH + Header::WIDTH * k;
+    let code = Sizes::WIDTH + Sizes::ENTRIES * k;
     let header = programme::header_of(sheet[Sizes::WIDTH + i]);
     play_block(
         &sheet[code + start..code + next],
@@ -831,7 +831,7 @@ fn play_at(
     )
 }
 
-// Plays the blocks in order. Before each, `start` is the running start; its length is read and added once.
+// Plays the blocks in order. Before each, `start` is the running start; each block's length is read and added once.
 fn run_blocks(
     sheet: &[u8],
     k: usize,

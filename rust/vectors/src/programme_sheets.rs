@@ -151,7 +151,7 @@ fn starts() -> Vec<Case> {
     ]
 }
 
-/// Lengths that add up to c, but not where the commands end.
+/// Lengths that add up to c: where the commands end, and elsewhere.
 fn moved_starts() -> Vec<Case> {
     let early = "code that ends early (offset: the block's length)";
     let blocks = [(0, skip()), (0, sequence(&[skip(), skip()])), (0, skip())];

@@ -4,7 +4,8 @@ use mathlib.Core.Path.{_≡_, sym, ap, _∙_}
 use native.Mathlib.Omega.{arith}
 use Rattle.store.specs.declared.Answer.{Answer}
 use Rattle.programme.specs.Sheet.{blocksFrom, verdictOf}
-use Rattle.programme.specs.Starts.{RunningStart, Stands}
+use Rattle.programme.specs.Starts.{RunningStart}
+use Rattle.programme.specs.Reading.{Stands}
 use Rattle.programme.proofs.Starts.{running-first, stands-next, end-small}
 use Rattle.programme.proofs.Blocks.{from-none, from-next, from-stop}
 use Rattle.programme.proofs.blocks_checked.Statement.{statement}

@@ -3,7 +3,7 @@ use denote.Ref.{now}
 use borrow.Author.Needs.{needs}
 use native.Mathlib.Omega.{arith}
 use lib.ListN.{length-replicate}
-use Rattle.programme.specs.Starts.{Stands}
+use Rattle.programme.specs.Reading.{Stands}
 use Rattle.programme.proofs.Starts.{stands-next, end-small}
 use Rattle.runner.proofs.Playing.{Underway, underway-start, underway-can, underway-next, underway-stop, underway-end}
 use Rattle.runner.proofs.run_blocks.Statement.{statement}
