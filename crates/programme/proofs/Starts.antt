@@ -12,6 +12,7 @@ use borrow.Author.Tests.{leb-true, ltb-true, eqb-true}
 use Rattle.lattice.proofs.Tests.{and-l, and-r, every-at}
 use Rattle.store.specs.Result.{ok}
 use Rattle.store.proofs.InTurn.{require-ok}
+use Rattle.store.proofs.Numbers.{number-lt}
 use Rattle.store.specs.Bytes.{numberAt, part, table}
 use Rattle.store.specs.Sheet.{sizesWidth}
 use Rattle.programme.specs.Sheet.{Block, mostCode, kOf, cOf, lengthAt, codeAt, startOf, codeOf, headerAt, headerGood, blocksFrom, programmeSheet}
@@ -20,15 +21,13 @@ use Rattle.programme.specs.Reading.{GoodLengths, Stands}
 
 -- the number of blocks has one byte, a block's length two
 pub count-small : (p : List ℕ) (k : ℕ) → ((j : ℕ) → getD p j 0 < 256) → k ≡ kOf p → k < 256
-unfolding numberAt
-count-small p k b e = omega (arith, e, b 0)
+count-small p k b e = omega (arith, e, number-lt p b 1 0)
 
 pub length-read : (p : List ℕ) (k i r : ℕ) → ((j : ℕ) → getD p j 0 < 256) → k ≡ kOf p → r ≡ numberAt 2 p (sizesWidth + k + 2 * i)
     → (r ≡ lengthAt p i) × (r < 65536)
-unfolding numberAt
 length-read p k i r b e h = (
   h ∙ ap (λ (x : ℕ). numberAt 2 p (sizesWidth + x + 2 * i)) e,
-  omega (arith, h, b (sizesWidth + k + 2 * i), b (sizesWidth + k + 2 * i + 1)),
+  omega (arith, h, number-lt p b 2 (sizesWidth + k + 2 * i)),
 )
 
 -- a programme sheet that is taken in
