@@ -72,7 +72,7 @@ fn room() -> [u8; Opened::MOST_OUTPUT]
 }
 
 // Runs the sheets after the rule and the budget into an output of the right size, and prints.
-fn run_into(rule: u8, budget: u32, rest: &[u8], slots: usize, out: &mut [u8])
+fn run_into(rule: u32, budget: u32, rest: &[u8], slots: usize, out: &mut [u8])
     requires { ⌜ slots ≤ mostSlots ⌝ }
 {
     let cut = printing::store_length(rest);
@@ -83,7 +83,7 @@ fn run_into(rule: u8, budget: u32, rest: &[u8], slots: usize, out: &mut [u8])
     }
 }
 
-fn run_sheets(rule: u8, budget: u32, rest: &[u8]) {
+fn run_sheets(rule: u32, budget: u32, rest: &[u8]) {
     let slots = slots_of(rest);
     let mut out = room();
     let size = Opened::SLOT_WIDTH * slots;
@@ -102,7 +102,7 @@ fn main() {
         });
         return;
     }
-    let rule = input[0];
+    let rule = (store::number_at(&input, 0, 1) % 256) as u32;
     let budget = (store::number_at(&input, 1, 4) % 4294967296) as u32;
     run_sheets(rule, budget, &input[Input::HEAD..size]);
 }

@@ -46,7 +46,7 @@ pub extern "C" fn muntyzhap_check_programme(
 pub extern "C" fn muntyzhap_run(
     store: &[u8],
     programme: &[u8],
-    rule: u8,
+    rule: u32,
     budget: u32,
     out: &mut [u8],
     block: &mut usize,

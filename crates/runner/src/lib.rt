@@ -98,15 +98,15 @@ pub struct Judges {
 }
 
 impl Judges {
-    pub const ACCESS_CONTROL: u8 = 0;
+    pub const ACCESS_CONTROL: u32 = 0;
 
-    pub const CAPABILITY: u8 = 1;
+    pub const CAPABILITY: u32 = 1;
 
-    pub const EXPLICIT_PROVENANCE: u8 = 2;
+    pub const EXPLICIT_PROVENANCE: u32 = 2;
 
-    pub const FULL_PROVENANCE: u8 = 3;
+    pub const FULL_PROVENANCE: u32 = 3;
     // Stands for a rule set by default: full provenance.
-    pub const DEFAULT: u8 = 255;
+    pub const DEFAULT: u32 = 255;
 
     pub const MOST_BUDGET: u32 = 1_000_000;
 }
@@ -695,7 +695,7 @@ fn run_block(
 }
 
 // What the rule set of a rule number judges.
-fn judges_of(rule: u8) -> Judges
+fn judges_of(rule: u32) -> Judges
     ensures { λ r. ⌜ r ≡ judgesOf (rulesOf rule) ⌝ }
 {
     let none = Judges {
@@ -962,7 +962,7 @@ fn run_opened(
 
 // One run: judges the arguments (11), opens the store sheet (1 to 5), and runs the programme. The answer and every byte of the output
 // are the definitions', for every input.
-pub fn run(store: &[u8], programme: &[u8], rule: u8, budget: u32, out: &mut [u8]) -> Answer
+pub fn run(store: &[u8], programme: &[u8], rule: u32, budget: u32, out: &mut [u8]) -> Answer
     ensures { λ r. ⌜
         (r ≡ answer (now (store .entry)) (now (programme .entry)) rule budget (length (now (out .entry))))
         × (now (out .exit) ≡ output (now (store .entry)) (now (programme .entry)) rule budget (now (out .entry)))

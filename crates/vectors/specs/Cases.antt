@@ -1,10 +1,9 @@
--- A case of the list that the program plays. It starts with 16 bytes: the mark `case` (4 bytes), the length of its name (1), the rule (1),
+-- A case of the list that the program plays. It starts with 19 bytes: the mark `case` (4 bytes), the length of its name (1), the rule (4),
 -- the budget (4), and the lengths of output, store sheet and programme sheet (2 each), lowest byte first. Then stand the name and the two
 -- sheets. Assumes nothing.
 use Prim.Native.Nat.{ℕ, _+_, _*_, _≤_}
 use mathlib.Core.Bool.{Bool}
 use mathlib.Core.List.{List}
-use lib.ListN.{getD}
 use lib.Dec.{eqb}
 use Rattle.store.specs.Bytes.{numberAt}
 use Rattle.store.specs.Value.{slotWidth}
@@ -22,11 +21,11 @@ unfoldable pub headOf : List ℕ → Head
 headOf s =
     record {
       name = numberAt 1 s 4;
-      rule = getD s 5 0;
-      budget = numberAt 4 s 6;
-      output = numberAt 2 s 10;
-      store = numberAt 2 s 12;
-      programme = numberAt 2 s 14;
+      rule = numberAt 4 s 5;
+      budget = numberAt 4 s 9;
+      output = numberAt 2 s 13;
+      store = numberAt 2 s 15;
+      programme = numberAt 2 s 17;
     }
 
 -- a slot more than any end store has

@@ -12,7 +12,7 @@ use store::Opened;
 // What a case says before its name and its sheets: their lengths, and the arguments of its run.
 struct Head {
     name: usize,
-    rule: u8,
+    rule: u64,
     budget: u64,
     output: usize,
     store: usize,
@@ -21,7 +21,7 @@ struct Head {
 
 impl Head {
     // The bytes of a head, and of the number of cases.
-    const WIDTH: usize = 16;
+    const WIDTH: usize = 19;
 
     const COUNT: usize = 2;
     // The word that each case starts with.
@@ -103,8 +103,9 @@ fn run_case(h: Head, body: &[u8], out: &mut [u8], before: &[u8])
     let name = h.name;
     let cut = name + h.store;
     // Four bytes hold no more, so nothing is cut.
+    let rule = (h.rule % 4294967296) as u32;
     let budget = (h.budget % 4294967296) as u32;
-    let a = runner::run(&body[name..cut], &body[cut..], h.rule, budget, out);
+    let a = runner::run(&body[name..cut], &body[cut..], rule, budget, out);
     io::write_all(1, &body[..name]);
     print_answer(a);
     print_output(a.number, out, before);
@@ -122,21 +123,21 @@ fn lend(h: Head, body: &[u8])
 }
 
 // Whether a case starts with its mark.
-fn is_marked(s: &[u8; 16]) -> bool
+fn is_marked(s: &[u8; Head::WIDTH]) -> bool
     ensures { λ r. ⌜ r ≡ marked (now (s .entry)) ⌝ }
 {
     store::number_at(s, 0, 4) == Head::MARK
 }
 
-fn head_of(s: &[u8; 16]) -> Head
+fn head_of(s: &[u8; Head::WIDTH]) -> Head
     ensures { λ r. ⌜ r ≡ headOf (now (s .entry)) ⌝ }
 {
     let name = store::number_at(s, 4, 1) as usize;
-    let rule = s[5];
-    let budget = store::number_at(s, 6, 4);
-    let output = store::number_at(s, 10, 2) as usize;
-    let first = store::number_at(s, 12, 2) as usize;
-    let second = store::number_at(s, 14, 2) as usize;
+    let rule = store::number_at(s, 5, 4);
+    let budget = store::number_at(s, 9, 4);
+    let output = store::number_at(s, 13, 2) as usize;
+    let first = store::number_at(s, 15, 2) as usize;
+    let second = store::number_at(s, 17, 2) as usize;
     Head {
         name,
         rule,
@@ -200,7 +201,7 @@ fn play_body(case: u64, h: Head) -> bool
 
 // Reads and plays the next case; answers whether it was one.
 fn play_next(case: u64) -> bool {
-    let mut bytes = [0u8; 16];
+    let mut bytes = [0u8; Head::WIDTH];
     let got = io::read_full(0, &mut bytes);
     if got < Head::WIDTH {
         return stop(b"cut off in case ", case);

@@ -7,6 +7,9 @@ use Rattle.vectors.proofs.run_case.Tie as tie
 add-cut : tie.Need-add-cut
 add-cut c = search needs
 
+cast-rule : tie.Need-cast-rule
+cast-rule c = search needs
+
 cast-budget : tie.Need-cast-budget
 cast-budget c = search needs
 
@@ -54,6 +57,7 @@ run-case-spec =
     tie.close
     (tie.spec
     add-cut
+    cast-rule
     cast-budget
     sub-run
     part-run-start
