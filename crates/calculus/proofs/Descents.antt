@@ -1,6 +1,5 @@
 -- The examples of the rule ladder, D1 to D26, hold of the definitions, by computation. Assumes nothing.
-use mathlib.Core.Path.{_≡_, refl}
-use mathlib.Core.List.{map}
+use mathlib.Core.Path.{refl}
 use Rattle.lattice.specs.Tests.{_and_, _or_, _implies_, every, some, find}
 use Rattle.lattice.specs.Order.{bit, inRange, reflexive, antisymmetric, transitive, isMeet, hasMeets, isTop, hasTop, good, meet, top}
 use Rattle.store.specs.Result.{_>>=_, require, refusedAs, inTurn, unplaced}
@@ -13,10 +12,9 @@ use Rattle.calculus.specs.Rules.{rulesOf, judgesViews, judgesRegion, lab
 use Rattle.calculus.specs.Calculus.{inRegion, admit, fetch, eval, judge, authorised, reliable, permit, assignment, counted, written, performed, step, choose, loop, exec, execBody, execs}
 use Rattle.calculus.specs.Blocks.{haltAnswer, runBlocks, start}
 use Rattle.calculus.specs.Run.{runProgramme, runOpened, runUnder, run, answerOf, outputOf}
-use Rattle.calculus.specs.Descents.{from3to2, from2to0, from1to0, larger, unordered, descents, runsOf}
-use Rattle.calculus.proofs.Vectors.{played, expected}
+use Rattle.calculus.specs.Descents.{from3to2, from2to0, from1to0, larger, unordered, runsOf, DescentsHold}
 
-pub descents-hold : map played (runsOf descents) ≡ map expected (runsOf descents)
+pub descents-hold : DescentsHold
 unfolding from3to2 from2to0 from1to0 larger unordered runsOf runProgramme runOpened runUnder run answerOf outputOf
     _and_ _or_ _implies_ every some find bit inRange reflexive antisymmetric transitive isMeet hasMeets isTop hasTop good meet top
     _>>=_ require refusedAs inTurn unplaced numberAt numberBytes table filled wellFormed valueAt valueBytes opened assigned emptySlot slotBytes

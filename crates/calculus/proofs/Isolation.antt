@@ -1,7 +1,6 @@
 -- Demand 3: noninterference under full provenance, on bytes. Assumes nothing.
 use Prim.Native.Nat.{ℕ, _*_, _<_}
 use mathlib.Core.Path.{_≡_, refl, sym, ap, _∙_}
-use mathlib.Core.Logic.{_↔_}
 use mathlib.Core.Bool.{true, false}
 use mathlib.Core.List.{List}
 use native.Mathlib.Omega.{arith}
@@ -18,6 +17,7 @@ use Rattle.store.specs.Sheet.{Tables, ownerOf, slotValueAt, storeSheet}
 use Rattle.store.proofs.Result.{Any, post-all, post-at}
 use Rattle.store.proofs.Pairs.{Post₂, Each, post₂-ok, post₂-join, post₂-equal, post₂-require, post₂-at, post₂-refused-as, post₂-bind}
 use Rattle.store.specs.Held.{Ordered}
+use Rattle.store.proofs.Bytes.{bytes-of}
 use Rattle.store.proofs.Opening.{Opens, store-opens, values-one, slot-part}
 use Rattle.programme.specs.Syntax.{Cmd}
 use Rattle.programme.specs.Code.{readBlock}
@@ -32,7 +32,7 @@ use Rattle.calculus.proofs.Taint.{Tainted, Agree}
 use Rattle.calculus.proofs.Noninterference.{Alike, Opposite, alike, reached, blocks-isolated}
 use Rattle.calculus.specs.Run.{Finished, runProgramme, runOpened, runUnder, run, answerOf, outputOf, output}
 use Rattle.calculus.specs.Vectors.{none}
-use Rattle.calculus.specs.Isolation.{withinReach, StoresAgree, Replaced, unchanged, exchanged, Replacement, NoneEndorsed, FullRule, byNumber, byDefault, FullRun, RunsAgree, Isolation}
+use Rattle.calculus.specs.Isolation.{withinReach, StoresAgree, OutputsAgree, Replaced, unchanged, exchanged, Replacement, NoneEndorsed, FullRule, byNumber, byDefault, FullRules, FullRun, RunsAgree, Isolation}
 use Rattle.calculus.proofs.Finished.{run-finished}
 
 -- Rule numbers
@@ -52,7 +52,7 @@ numbers-full rule e =
     (λ _ h. absurd (omega (arith, h))) (λ _ h. absurd (omega (arith, h))) (λ _ h. absurd (omega (arith, h)))
     (λ n _. byNumber n) (λ n _. byDefault n) tt) e refl
 
-pub full-rule : (rule : ℕ) → FullRule rule ↔ (rulesOf rule ≡ ok fullProvenance)
+pub full-rule : FullRules
 full-rule rule = (full-rules rule, numbers-full rule)
 
 -- Blocks
@@ -182,7 +182,10 @@ module _ (a : Label) (store store′ : List ℕ) (w : Tables) (s s′ : Store)
       go i p (yes l) = h i (record { inside = l; above = p })
       go i p (no l) = opens store w s sheet .outside i (omega arith) ∙ sym (opens store′ w s′ sheet′ .outside i (omega arith))
 
-  forth : a < w .order .n → StoresAgree w a s s′ → RunsAgree w a store store′
+  -- the way forth needs no bytes: it holds of any lists of numbers
+  pub forth : a < w .order .n → StoresAgree w a s s′
+      → (p : List ℕ) → NoneEndorsed p → (q q′ : List ℕ) → Replacement w a p q → Replacement w a p q′
+      → (out out′ : List ℕ) → FullRun store q out → FullRun store′ q′ out′ → OutputsAgree w a out out′
   forth in-a h p bare q q′ r r′ out out′ x x′ i b =
       let f = run-finished store q (x .rule) (x .run .budget) (length (x .run .old)) (x .run .finishes) in
       let f′ = run-finished store′ q′ (x′ .rule) (x′ .run .budget) (length (x′ .run .old)) (x′ .run .finishes) in
@@ -197,11 +200,13 @@ module _ (a : Label) (store store′ : List ℕ) (w : Tables) (s s′ : Store)
       ∙ sym (ap (λ (l : List ℕ). part l (slotWidth * i) slotWidth) (x′ .run .ends))
 
   back : Bytes store → Bytes store′ → RunsAgree w a store store′ → StoresAgree w a s s′
-  unfolding numberAt
+  unfolding numberAt every _and_
   back d d′ h i b =
       let self : Replacement w a none none = record { count = refl; each = λ i l. unchanged refl refl } in
+      let few : Bytes none = bytes-of none refl in
       let e =
-      h none (λ i l. absurd (omega arith)) none none self self _ _ (full-none store w s sheet) (full-none store′ w s′ sheet′) i b in
+      h none few (λ i l. absurd (omega arith)) none none few few self self _ _
+      (full-none store w s sheet) (full-none store′ w s′ sheet′) i b in
       opens store w s sheet .inside i (b .inside)
       ∙ ap opened (values-one store store′ _ _ d d′ (
       sym (none-part store w s sheet i (b .inside)) ∙ e ∙ none-part store′ w s′ sheet′ i (b .inside)))
@@ -209,5 +214,7 @@ module _ (a : Label) (store store′ : List ℕ) (w : Tables) (s s′ : Store)
 
 -- Demand 3
 pub isolated : Isolation
-isolated a store store′ w s s′ in-a d d′ sheet sheet′ =
-    (forth a store store′ w s s′ sheet sheet′ in-a, back a store store′ w s s′ sheet sheet′ d d′)
+isolated a store store′ w s s′ in-a d d′ sheet sheet′ = (
+  λ h p _ bare q q′ _ _ r r′. forth a store store′ w s s′ sheet sheet′ in-a h p bare q q′ r r′,
+  back a store store′ w s s′ sheet sheet′ d d′,
+)

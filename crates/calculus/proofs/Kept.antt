@@ -1,7 +1,8 @@
 -- What every block keeps, a run keeps, after any number of steps and in its output. Assumes nothing.
-use Prim.Native.Nat.{ℕ, _+_, _*_, _<_}
+use Prim.Native.Nat.{ℕ, _+_, _*_, _≤_, _<_}
 use mathlib.Core.Path.{_≡_, ap, _∙_}
 use mathlib.Core.List.{List, [], _∷_}
+use native.Mathlib.Omega.{arith}
 use lib.ListN.{length, getD}
 use lib.Seq.{take-length}
 use Rattle.lattice.specs.Order.{Label, top}
@@ -9,7 +10,7 @@ use Rattle.store.specs.Result.{Result, ok, refuse}
 use Rattle.store.specs.Bytes.{part}
 use Rattle.store.specs.Value.{emptySlot, slotWidth, slotBytes}
 use Rattle.store.specs.Sheet.{Tables}
-use Rattle.store.proofs.Result.{Post, post-ok, post-at, post-refused-as, post-bind}
+use Rattle.store.proofs.Result.{Post, post-ok, post-at, post-map, post-refused-as, post-bind}
 use Rattle.store.proofs.Opening.{slot-part}
 use Rattle.programme.specs.Sheet.{Block}
 use Rattle.programme.proofs.Placed.{IsBlock, Placed, none, more, placed-map, programme-placed}
@@ -20,6 +21,8 @@ use Rattle.calculus.specs.Run.{answer, output}
 use Rattle.calculus.specs.Faithful.{Good}
 use Rattle.calculus.specs.Isolation.{StoresAgree}
 use Rattle.calculus.specs.Kept.{reached, stateWithin, storeAfter, ProtectedKept}
+use Rattle.calculus.specs.Steps.{StepsBounded}
+use Rattle.calculus.proofs.Blocks.{run-counts}
 use Rattle.calculus.proofs.Invariant.{Ends}
 use Rattle.calculus.proofs.Faithful.{faithfulness}
 
@@ -28,6 +31,13 @@ pub at-reached : (P : State → Type 0) (r : Result Halt State) → Post P (λ h
 unfolding Post reached
 at-reached P (ok s) p = p
 at-reached P (refuse h) p = p
+
+-- steps only grow and never pass the budget
+pub steps-bounded : StepsBounded
+steps-bounded w rules budget i bs s h =
+    at-reached (λ t. (s .steps ≤ t .steps) × (t .steps ≤ budget)) _
+    (post-map _ _ _ _ _ (run-counts w rules budget i (s .steps) bs s (record { grown = omega arith; kept = h }))
+    (λ _ c. (c .grown, c .kept)) (λ _ c. (c .grown, c .kept)))
 
 module _ (I : Store → Type 0) where
   -- I holds where a run ends or is stopped

@@ -1,11 +1,7 @@
 -- P1 to P12 hold of the definitions, by computation. Assumes nothing.
-use Prim.Native.Nat.{ℕ}
-use mathlib.Core.Path.{_≡_, refl}
-use mathlib.Core.List.{List, map}
-use lib.ListN.{length}
+use mathlib.Core.Path.{refl}
 use Rattle.lattice.specs.Tests.{_and_, _or_, _implies_, every, some, find}
 use Rattle.lattice.specs.Order.{bit, inRange, reflexive, antisymmetric, transitive, isMeet, hasMeets, isTop, hasTop, good, meet, top}
-use Rattle.store.specs.declared.Answer.{Answer}
 use Rattle.store.specs.Result.{_>>=_, require, refusedAs, inTurn, unplaced}
 use Rattle.store.specs.Bytes.{numberAt, numberBytes, table, filled}
 use Rattle.store.specs.Value.{wellFormed, valueAt, valueBytes, opened, assigned, emptySlot, slotBytes}
@@ -15,25 +11,10 @@ use Rattle.programme.specs.Sheet.{headerOf, startOf, headerGood, blockAt, block
 use Rattle.calculus.specs.Rules.{rulesOf, judgesViews, judgesRegion, labelsJudged, allAbove}
 use Rattle.calculus.specs.Calculus.{inRegion, admit, fetch, eval, judge, authorised, reliable, permit, assignment, counted, written, performed, step, choose, loop, exec, execBody, execs}
 use Rattle.calculus.specs.Blocks.{haltAnswer, runBlocks, start}
-use Rattle.calculus.specs.Run.{runProgramme, runOpened, runUnder, run, answerOf, outputOf, answer, output}
-use Rattle.calculus.specs.Vectors.{Vector, blank, vectors}
+use Rattle.calculus.specs.Run.{runProgramme, runOpened, runUnder, run, answerOf, outputOf}
+use Rattle.calculus.specs.Vectors.{vectors, VectorsHold}
 
--- what the definitions say of a vector's input
-pub record Played : Type 0 where
-  pub said : Answer
-  pub left : List ℕ
-
-abbrev pub played : Vector → Played
-played v =
-    record {
-      said = answer (v .store) (v .programme) (v .rule) (v .budget) (length blank);
-      left = output (v .store) (v .programme) (v .rule) (v .budget) blank;
-    }
-
-abbrev pub expected : Vector → Played
-expected v = record { said = v .answer; left = v .output }
-
-pub vectors-hold : map played vectors ≡ map expected vectors
+pub vectors-hold : VectorsHold
 unfolding vectors runProgramme runOpened runUnder run answerOf outputOf
     _and_ _or_ _implies_ every some find bit inRange reflexive antisymmetric transitive isMeet hasMeets isTop hasTop good meet top
     _>>=_ require refusedAs inTurn unplaced numberAt numberBytes table filled wellFormed valueAt valueBytes opened assigned emptySlot slotBytes

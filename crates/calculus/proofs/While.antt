@@ -5,24 +5,19 @@ use native.Mathlib.Omega.{arith}
 use borrow.Author.Tests.{eq-eqb}
 use Rattle.lattice.specs.Order.{Label, meet}
 use Rattle.store.specs.Result.{Result, ok, _>>=_, require, refusedAs}
-use Rattle.programme.specs.Syntax.{Expr, Cmd, cmd, while}
+use Rattle.programme.specs.Syntax.{Expr, Cmd}
 use Rattle.store.proofs.Result.{bind-same}
 use Rattle.calculus.specs.Calculus.{Setting, State, Stop, counted, step, judge, choose, loop, exec, execBody}
+use Rattle.calculus.specs.Steps.{once, WhileLaw}
 use Rattle.calculus.proofs.Steps.{choose-both, Counted, made, exec-counts}
 
 module _ (w : Setting) (g : Expr) (c : Cmd) (at : ℕ) (branch : Label) where
-  -- one round, and then k
-  abbrev pub once : (State → Result Stop State) → State → Result Stop State
-  once k s =
-      step w at s (judge w (s .store) g) >>= λ j.
-      choose (j .passes) (λ t. exec w c (meet (w .tables .order) branch (j .label)) t >>= k) ok (counted s)
-
   abbrev rounds : ℕ → State → Result Stop State
   rounds n s = loop (λ t. step w at t (judge w (t .store) g)) (λ l t. exec w c (meet (w .tables .order) branch l) t) at n s
 
   -- what follows a round matters only at states that it can end in
   once-same : (k k′ : State → Result Stop State) (s : State) → s .steps ≤ w .budget
-      → ((u : State) → Counted (w .budget) (s .steps + 1) u → k u ≡ k′ u) → once k s ≡ once k′ s
+      → ((u : State) → Counted (w .budget) (s .steps + 1) u → k u ≡ k′ u) → once w g c at branch k s ≡ once w g c at branch k′ s
   unfolding counted
   once-same k k′ s h same =
       bind-same _ _ _ _ _ (made w (s .steps) at s _ (record { grown = omega arith; kept = h })) λ j q.
@@ -42,11 +37,10 @@ module _ (w : Setting) (g : Expr) (c : Cmd) (at : ℕ) (branch : Label) where
   enough (suc n) (suc m) s k h h′ =
       once-same (rounds n) (rounds m) s k (λ u q. enough n m u (q .kept) (omega (arith, q .grown)) (omega (arith, q .grown)))
 
-  -- a while command is one round of it, and then the same command again
-  pub while-law : (end : ℕ) (s : State) → s .steps ≤ w .budget
-      → exec w (cmd at end (while g c)) branch s ≡ once (exec w (cmd at end (while g c)) branch) s
-  unfolding exec execBody loop
-  while-law end s h =
-      enough (w .budget - s .steps) (suc (w .budget)) s h (omega arith) (omega arith)
-      ∙ once-same (rounds (w .budget)) (λ u. rounds (w .budget - u .steps) u) s h
-      (λ u q. enough (w .budget) (w .budget - u .steps) u (q .kept) (omega arith) (omega (arith, q .kept)))
+-- a while command is one round of it, and then the same command again
+pub while-law : WhileLaw
+unfolding exec execBody loop
+while-law w g c at branch end s h =
+    enough w g c at branch (w .budget - s .steps) (suc (w .budget)) s h (omega arith) (omega arith)
+    ∙ once-same w g c at branch (rounds w g c at branch (w .budget)) (λ u. rounds w g c at branch (w .budget - u .steps) u) s h
+    (λ u q. enough w g c at branch (w .budget) (w .budget - u .steps) u (q .kept) (omega arith) (omega (arith, q .kept)))

@@ -4,7 +4,7 @@
 use Prim.Native.Nat.{ℕ}
 use mathlib.Core.List.{List, [], _∷_, _++_}
 use Rattle.store.specs.declared.Answer.{Answer}
-use Rattle.calculus.specs.Vectors.{Vector, runs, says, blank, int, bool, writes, opening, assign, lit, read, while, one, both, copy, raise, keepView, two, branches, branchAt, flagged}
+use Rattle.calculus.specs.Vectors.{Vector, Hold, runs, says, blank, int, bool, writes, opening, assign, lit, read, while, one, both, copy, raise, keepView, two, branches, branchAt, flagged}
 
 -- a programme over a store, before and after its rule or its budget is changed
 pub record Example : Type 0 where
@@ -137,3 +137,7 @@ descents = from3to2 ++ from2to0 ++ from1to0 ++ larger ++ unordered
 unfoldable pub runsOf : List Example → List Vector
 runsOf [] = []
 runsOf (e ∷ es) = e .before ∷ e .after ∷ runsOf es
+
+-- both runs of each come to their answers and outputs
+abbrev pub DescentsHold : Type 0
+DescentsHold = Hold (runsOf descents)

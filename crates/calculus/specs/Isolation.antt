@@ -11,6 +11,7 @@ use Rattle.store.specs.Bytes.{Bytes, part}
 use Rattle.store.specs.Value.{slotWidth, emptySlot}
 use Rattle.store.specs.Sheet.{Tables, ownerOf, storeSheet}
 use Rattle.programme.specs.Sheet.{kOf, headerAt, codeOf}
+use Rattle.calculus.specs.Rules.{fullProvenance, rulesOf}
 use Rattle.calculus.specs.Calculus.{Store}
 use Rattle.calculus.specs.Run.{FinishedRun}
 
@@ -52,17 +53,21 @@ pub data FullRule (rule : ℕ) : Type 0 where
   byNumber : rule ≡ 3 → FullRule rule
   byDefault : rule ≡ 255 → FullRule rule
 
+-- these are all the numbers of full provenance
+abbrev pub FullRules : Type 0
+FullRules = (rule : ℕ) → FullRule rule ↔ (rulesOf rule ≡ ok fullProvenance)
+
 -- one run under full provenance that finishes
 pub record FullRun (store programme out : List ℕ) : Type 0 where
   pub rule : ℕ
   pub full : FullRule rule
   pub run : FinishedRun rule store programme out
 
--- whatever an adversary sends, whenever both runs finish, the two outputs agree
+-- whatever bytes an adversary sends, whenever both runs finish, the two outputs agree
 abbrev pub RunsAgree : Tables → Label → List ℕ → List ℕ → Type 0
 RunsAgree w adversary store store′ =
-    (p : List ℕ) → NoneEndorsed p
-    → (q q′ : List ℕ) → Replacement w adversary p q → Replacement w adversary p q′
+    (p : List ℕ) → Bytes p → NoneEndorsed p
+    → (q q′ : List ℕ) → Bytes q → Bytes q′ → Replacement w adversary p q → Replacement w adversary p q′
     → (out out′ : List ℕ) → FullRun store q out → FullRun store′ q′ out′ → OutputsAgree w adversary out out′
 
 -- Demand 3: "for any principal as the stranger and any two good opening stores under one order table and one owner array: the stores

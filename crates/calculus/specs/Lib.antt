@@ -7,6 +7,10 @@ pub mod Faithful
 pub mod Ladder
 pub mod Isolation
 pub mod Kept
+pub mod Steps
 pub mod Deputy
 pub mod Vectors
+pub mod Unrelated
+pub mod Endorsed
+pub mod Whole
 pub mod Descents

@@ -1,9 +1,11 @@
 -- Document 01, "Finds from the test trench": P1 to P12 as bytes, each with its answer and its output; "01's finds are worked again" (document 02,
 -- N3). Assumes nothing.
 use Prim.Native.Nat.{ℕ, _*_, _/_, _%_}
+use mathlib.Core.Path.{_≡_}
 use mathlib.Core.List.{List, [], _∷_, _++_, map}
 use lib.ListN.{length, replicate}
 use Rattle.store.specs.declared.Answer.{Answer}
+use Rattle.calculus.specs.Run.{answer, output}
 
 pub record Vector : Type 0 where
   pub rule : ℕ
@@ -151,3 +153,26 @@ vectors =
     -- "P12: while true do skip, budget 3: 17, steps 3."
     ∷ runs 0 3 opening (one 0 (while 1)) (says 17 0 0 3) blank
     ∷ []
+
+-- what the definitions say of a vector's input, and what the vector says
+pub record Played : Type 0 where
+  pub said : Answer
+  pub left : List ℕ
+
+abbrev pub played : Vector → Played
+played v =
+    record {
+      said = answer (v .store) (v .programme) (v .rule) (v .budget) (length blank);
+      left = output (v .store) (v .programme) (v .rule) (v .budget) blank;
+    }
+
+abbrev pub expected : Vector → Played
+expected v = record { said = v .answer; left = v .output }
+
+-- each vector of a list comes to its answer and its output
+abbrev pub Hold : List Vector → Type 0
+Hold vs = map played vs ≡ map expected vs
+
+-- "P1 to P12 form a proved list with one theorem over all of them."
+abbrev pub VectorsHold : Type 0
+VectorsHold = Hold vectors

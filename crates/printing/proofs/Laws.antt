@@ -1,19 +1,14 @@
--- Laws of the printing program's input and of printed payloads. Assumes nothing.
-use Prim.Native.Nat.{ℕ, _+_, _-_, _*_, _^_, _≤_, _<_, min}
+-- Laws of the printing program's input. Assumes nothing.
+use Prim.Native.Nat.{ℕ, _+_, _*_, _≤_, _<_, min}
 use mathlib.Core.Path.{_≡_, _∙_}
-use mathlib.Core.Bool.{true, false}
 use mathlib.Core.List.{List}
 use native.Mathlib.Omega.{arith}
 use lib.ListN.{length, getD}
-use lib.Dec.{leb}
-use borrow.Author.Tests.{lt-ltb, le-ltb, eq-eqb, ne-eqb, leb-true, leb-false}
-use Rattle.lattice.specs.Tests.{_and_}
-use Rattle.lattice.proofs.Tests.{and-r}
-use Rattle.store.specs.declared.Value.{Value}
-use Rattle.store.specs.Value.{payloadWidth, valueWidth, integer}
+use borrow.Author.Tests.{lt-ltb, le-ltb}
+use Rattle.store.specs.Value.{valueWidth}
 use Rattle.store.specs.Sheet.{sizesWidth, nOf, mOf, valuesAt, valueWidthIn}
 use Rattle.store.proofs.Numbers.{number-lt}
-use Rattle.printing.specs.Input.{storeLength, leastNegative, negative, magnitude}
+use Rattle.printing.specs.Input.{storeLength}
 
 -- sizes of one and two bytes
 pub sizes-small : (s : List ℕ) → ((i : ℕ) → getD s i 0 < 256) → (n m : ℕ) → n ≡ nOf s → m ≡ mOf s → (n < 256) × (m < 65536)
@@ -38,27 +33,3 @@ module _ (s : List ℕ) where
 
     pub as-there : length s ≤ said → length s ≡ storeLength s
     as-there l = let e : length s ≡ min (length s) said = omega arith in e ∙ shorter
-
-module _ (v : Value) where
-  pub signed : v .kind ≡ integer → leb leastNegative (v .payload) ≡ negative v
-  unfolding negative _and_
-  signed h = rw (eq-eqb (v .kind) integer h)
-
-  pub unsigned : (v .kind ≡ integer → ⊥) → false ≡ negative v
-  unfolding negative _and_
-  unsigned h = rw (ne-eqb (v .kind) integer h)
-
-  pub plain : negative v ≡ false → v .payload ≡ magnitude v
-  unfolding magnitude
-  plain h = rw (magnitude, h)
-
-  pub flipped : negative v ≡ true → 2 ^ (8 * payloadWidth) - v .payload ≡ magnitude v
-  unfolding magnitude
-  flipped h = rw (magnitude, h)
-
-  pub from-least : negative v ≡ true → leastNegative ≤ v .payload
-  unfolding negative
-  from-least h = leb-true _ _ (and-r _ _ h)
-
-  pub below-least : v .kind ≡ integer → negative v ≡ false → v .payload < leastNegative
-  below-least k h = leb-false _ _ (signed k ∙ h)

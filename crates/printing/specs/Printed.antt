@@ -1,23 +1,7 @@
--- How payloads are printed: what holds of every integer, and worked examples as bytes. Assumes nothing.
-use Prim.Native.Nat.{ℕ, _*_, _^_, _≤_, _<_}
-use mathlib.Core.Path.{_≡_}
+-- How payloads are printed: worked examples as bytes. Assumes nothing.
+use Prim.Native.Nat.{ℕ}
 use mathlib.Core.Bool.{Bool, true, false}
 use mathlib.Core.List.{List, [], _∷_}
-use Rattle.store.specs.declared.Value.{Value}
-use Rattle.store.specs.Value.{payloadWidth, integer}
-use Rattle.printing.specs.Input.{leastNegative, negative, magnitude}
-
--- an integer that a sheet can hold
-pub record AnInteger (v : Value) : Type 0 where
-  pub kind : v .kind ≡ integer
-  pub fits : v .payload < 2 ^ (8 * payloadWidth)
-
--- "Integers are signed 64-bit" (document 02, N3): with a minus sign 1 to 2 ^ 63 are printed, without one 0 to 2 ^ 63 - 1, and no two integers
--- alike.
-pub record SignedIntegers : Type 0 where
-  pub minus : (v : Value) → AnInteger v → negative v ≡ true → (1 ≤ magnitude v) × (magnitude v ≤ leastNegative)
-  pub plain : (v : Value) → AnInteger v → negative v ≡ false → magnitude v < leastNegative
-  pub apart : (u v : Value) → AnInteger u → AnInteger v → negative u ≡ negative v → magnitude u ≡ magnitude v → u .payload ≡ v .payload
 
 -- a value's bytes, whether it is printed with a minus sign, and the number after that
 pub record Printed : Type 0 where

@@ -2,7 +2,8 @@
 ghost use mathlib.Core.Path.{_≡_};
 ghost use Prim.Native.Nat.{_≤_};
 ghost use lib.ListN.{length};
-ghost use Rattle.printing.specs.Input.{storeLength, negative, magnitude};
+ghost use Rattle.printing.specs.Input.{storeLength};
+ghost use Rattle.store.specs.Signed.{negative, magnitude};
 use store::Opened;
 use store::Value;
 

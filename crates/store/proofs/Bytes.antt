@@ -1,4 +1,4 @@
--- Laws of numbers, values and slots in bytes: their widths, and that what is written is read back. Assumes nothing.
+-- Laws of bytes, and of numbers, values and slots in bytes: their widths, and that what is written is read back. Assumes nothing.
 use Prim.Native.Nat.{ℕ, zero, suc, _+_, _*_, _/_, _%_, _^_, _≤_, _<_}
 use mathlib.Core.Path.{_≡_, refl, ap, ap₂, _∙_}
 use mathlib.Core.Bool.{true}
@@ -7,15 +7,25 @@ use mathlib.Core.List.{List, _∷_}
 use native.Mathlib.Nat.{pow-suc, div-lt-iff-lt-mul}
 use native.Mathlib.Numerals.{add-one}
 use native.Mathlib.Omega.{arith}
-use lib.ListN.{length, getD, drop, length-append}
+use native.Mathlib.Decide.{decLt}
+use lib.ListN.{length, getD, drop, length-append, List·getD-eq-default}
 use lib.Seq.{getD-take, getD-drop}
+use lib.Dec.{ltb}
 use borrow.Author.Tests.{ltb-true, lt-ltb}
-use Rattle.lattice.specs.Tests.{_and_, _or_}
-use Rattle.lattice.proofs.Tests.{and-l, and-r, and-of, or-at, or-l, or-r}
-use Rattle.store.specs.Bytes.{numberAt, numberBytes, part}
+use Rattle.lattice.specs.Tests.{_and_, _or_, every}
+use Rattle.lattice.proofs.Tests.{and-l, and-r, and-of, or-at, or-l, or-r, every-at}
+use Rattle.store.specs.Bytes.{Bytes, numberAt, numberBytes, part}
 use Rattle.store.specs.declared.Value.{Value}
 use Rattle.store.specs.Value.{payloadWidth, valueWidth, readView, writeView, viewed, wellFormed, valueAt, valueBytes, Slot, emptySlot, slotWidth, slotBytes}
 use Rattle.store.specs.Sheet.{slotsBytes}
+
+-- that a list is one of bytes, by a test that computes
+pub bytes-of : (s : List ℕ) → every (length s) (λ i. ltb (getD s i 0) 256) ≡ true → Bytes s
+bytes-of s e i = go (decLt i (length s))
+  where
+    go : Dec (i < length s) → getD s i 0 < 256
+    go (yes h) = ltb-true _ _ (every-at (length s) _ e i h)
+    go (no h) = rw (List·getD-eq-default s 0 {n = i} (omega arith)) (omega arith)
 
 pub length-number : (width x : ℕ) → length (numberBytes width x) ≡ width
 unfolding numberBytes

@@ -7,3 +7,4 @@ pub mod Fill
 pub mod Written
 pub mod Sheet
 pub mod Opening
+pub mod Signed

@@ -1,5 +1,6 @@
 pub mod Result
 pub mod Bytes
 pub mod Value
+pub mod Signed
 pub mod Sheet
 pub mod Held

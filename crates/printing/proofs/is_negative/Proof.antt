@@ -1,4 +1,4 @@
-use Rattle.printing.proofs.Laws.{signed, unsigned}
+use Rattle.store.proofs.Signed.{signed, unsigned}
 use Rattle.printing.proofs.is_negative.Statement.{statement}
 use Rattle.printing.proofs.is_negative.Tie as tie
 

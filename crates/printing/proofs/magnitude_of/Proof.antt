@@ -1,7 +1,7 @@
 use mathlib.Core.Path.{sym, _∙_}
 use borrow.Author.Needs.{needs}
 use native.Mathlib.Omega.{arith}
-use Rattle.printing.proofs.Laws.{plain, flipped, from-least}
+use Rattle.store.proofs.Signed.{plain, flipped, from-least}
 use Rattle.printing.proofs.magnitude_of.Statement.{statement}
 use Rattle.printing.proofs.magnitude_of.Tie as tie
 
