@@ -30,4 +30,3 @@ pub mod Whole
 pub mod Endorsed
 pub mod Unrelated
 pub mod Vectors
-pub mod Descents

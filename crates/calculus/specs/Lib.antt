@@ -14,3 +14,4 @@ pub mod Unrelated
 pub mod Endorsed
 pub mod Whole
 pub mod Descents
+pub mod Faults
