@@ -30,3 +30,4 @@ pub mod Whole
 pub mod Endorsed
 pub mod Unrelated
 pub mod Vectors
+pub mod Promises

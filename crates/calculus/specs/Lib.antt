@@ -15,3 +15,4 @@ pub mod Endorsed
 pub mod Whole
 pub mod Descents
 pub mod Faults
+pub mod Promises

@@ -10,10 +10,11 @@ use borrow.Author.Tests.{ltb-true, lt-ltb, eqb-true, eq-eqb, lt-leb, not-true}
 use Rattle.lattice.specs.declared.Table.{Table}
 use Rattle.lattice.specs.Tests.{_and_, _or_}
 use Rattle.lattice.specs.Order.{mostPrincipals, bit, below, good}
+use Rattle.lattice.specs.Laws.{Below, Good}
 use Rattle.lattice.specs.Masks.{at, hasMask, pairOk, meetOk, rowOk, lineOk, rowsOk, tableOk}
 use Rattle.lattice.proofs.Tests.{and-l, and-r, and-of, or-at, or-l, or-r, imp-at, imp-of, iff, every-at, every-of, some-at, some-of}
 use Rattle.lattice.proofs.Bits.{same-bits, bit-ones}
-use Rattle.lattice.proofs.Order.{Below, Good, good-at, good-of, both-below, and-small, meet-mask, top-mask}
+use Rattle.lattice.proofs.Order.{good-at, good-of, both-below, and-small, meet-mask, top-mask}
 
 module _ (masks : List ℕ) (n : ℕ) (few : n ≤ mostPrincipals) where
   abbrev t : Table

@@ -1,5 +1,5 @@
 -- The laws of a good table: a partial order with meets and a top, and labels held as masks. Assumes nothing.
-use Prim.Native.Nat.{_-_, _^_, _≤_, _<_}
+use Prim.Native.Nat.{_-_, _^_, _<_}
 use mathlib.Core.Path.{_≡_, sym, _∙_}
 use mathlib.Core.Bool.{true}
 use native.Mathlib.Nat.{lt-of-le-of-lt}
@@ -8,28 +8,11 @@ use lib.Bits.{bitAnd, and-le-l}
 use borrow.Author.Tests.{ltb-true, leb-true, lt-ltb, le-leb, eqb-true, eq-eqb}
 use Rattle.lattice.specs.Tests.{_and_}
 use Rattle.lattice.specs.declared.Table.{Table}
-use Rattle.lattice.specs.Order.{Label, mostPrincipals, mask, bit, below, inRange, reflexive, antisymmetric, transitive, isMeet, hasMeets, isTop, hasTop, good, meet, top}
+use Rattle.lattice.specs.Order.{Label, mask, bit, below, inRange, reflexive, antisymmetric, transitive, isMeet, hasMeets, isTop, hasTop, good, meet, top}
+pub use Rattle.lattice.specs.Laws.{Below, Meets, Good}
+use Rattle.lattice.specs.Laws.{GoodTables}
 use Rattle.lattice.proofs.Tests.{and-l, and-r, and-of, imp-at, imp-of, iff, every-at, every-of, some-at, some-of, find-at}
 use Rattle.lattice.proofs.Bits.{bit-and, same-bits, bit-ones}
-
-abbrev pub Below : Table → Label → Label → Type 0
-Below t j i = below t j i ≡ true
-
--- k is the meet of i and j: below both, and the greatest such
-pub record Meets (t : Table) (i j k : Label) : Type 0 where
-  pub lower-l : Below t k i
-  pub lower-r : Below t k j
-  pub greatest : (l : Label) → l < t .n → Below t l i → Below t l j → Below t l k
-
--- what a good table is, as facts
-pub record Good (t : Table) : Type 0 where
-  pub few : t .n ≤ mostPrincipals
-  pub small : (i : Label) → i < t .n → mask t i < 2 ^ t .n
-  pub self : (i : Label) → i < t .n → Below t i i
-  pub anti : (i j : Label) → i < t .n → j < t .n → Below t j i → Below t i j → i ≡ j
-  pub trans : (i j k : Label) → i < t .n → j < t .n → k < t .n → Below t k j → Below t j i → Below t k i
-  pub meets : (i j : Label) → i < t .n → j < t .n → (k : Label) × (k < t .n) × Meets t i j k
-  pub tops : (k : Label) × (k < t .n) × ((i : Label) → i < t .n → Below t i k)
 
 module _ (t : Table) where
   meet-at : (i j k : Label) → isMeet t i j k ≡ true → Meets t i j k
@@ -139,3 +122,11 @@ module _ (t : Table) where
 
     pub mask-top : mask t (top t) ≡ 2 ^ t .n - 1
     mask-top = top-mask g _ top-lt below-top
+
+pub good-tables : GoodTables
+good-tables =
+    record {
+      facts = λ t. (good-at t, good-of t);
+      meets = λ t e i j hi hj. (meet-lt t e i j hi hj, meet-meets t e i j hi hj);
+      tops = λ t e. (top-lt t e, below-top t e);
+    }

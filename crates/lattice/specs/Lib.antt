@@ -1,3 +1,4 @@
 pub mod Tests
 pub mod Order
+pub mod Laws
 pub mod Masks

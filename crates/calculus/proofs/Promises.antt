@@ -1,0 +1,54 @@
+-- The promises hold: without any one of these theorems this file is refused. Assumes nothing.
+use Rattle.lattice.proofs.Order.{good-tables}
+use Rattle.store.proofs.Signed.{signed-integers}
+use Rattle.programme.proofs.Starts.{running-starts, three-worked}
+use Rattle.calculus.specs.Promises.{Promises}
+use Rattle.calculus.proofs.While.{while-law}
+use Rattle.calculus.proofs.Faithful.{faithfulness}
+use Rattle.calculus.proofs.Isolation.{full-rule, isolated}
+use Rattle.calculus.proofs.RuleNumbers.{rule-numbers}
+use Rattle.calculus.proofs.Ladder.{ladder, descent, budgets, further}
+use Rattle.calculus.proofs.OwnRefusals.{own-refusals}
+use Rattle.calculus.proofs.Kept.{steps-bounded}
+use Rattle.calculus.proofs.Stepwise.{step-by-step}
+use Rattle.calculus.proofs.Capability.{capability-safety}
+use Rattle.calculus.proofs.Integrity.{write-integrity}
+use Rattle.calculus.proofs.Provenance.{provenance-safety}
+use Rattle.calculus.proofs.Deputy.{deputy-safety}
+use Rattle.calculus.proofs.Whole.{whole-worked, whole-run-not-safe}
+use Rattle.calculus.proofs.Endorsed.{endorsed-worked, endorsed-not-isolated}
+use Rattle.calculus.proofs.Unrelated.{unrelated-protected}
+use Rattle.calculus.proofs.Vectors.{vectors-hold, descents-hold, faults-hold}
+
+pub promises : Promises
+promises =
+    record {
+      good-tables = good-tables;
+      faithfulness = faithfulness;
+      while-law = while-law;
+      steps-bounded = steps-bounded;
+      vectors-hold = vectors-hold;
+      faults-hold = faults-hold;
+      isolated = isolated;
+      full-rule = full-rule;
+      unrelated-protected = unrelated-protected;
+      endorsed-worked = endorsed-worked;
+      endorsed-not-isolated = endorsed-not-isolated;
+      rule-numbers = rule-numbers;
+      ladder = ladder;
+      descent = descent;
+      budgets = budgets;
+      further = further;
+      own-refusals = own-refusals;
+      descents-hold = descents-hold;
+      step-by-step = step-by-step;
+      capability-safety = capability-safety;
+      write-integrity = write-integrity;
+      provenance-safety = provenance-safety;
+      deputy-safety = deputy-safety;
+      whole-worked = whole-worked;
+      whole-run-not-safe = whole-run-not-safe;
+      signed-integers = signed-integers;
+      running-starts = running-starts;
+      three-worked = three-worked;
+    }

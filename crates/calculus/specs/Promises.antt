@@ -1,0 +1,60 @@
+-- Every promised theorem, by demand and request: one record, which the checker proves (`promises`). What a function promises is its contract,
+-- and stands at the function. docs/PROMISES.md follows this order. Assumes nothing.
+use Prim.Native.Nat.{ℕ}
+use mathlib.Core.List.{List}
+use Rattle.lattice.specs.Laws.{GoodTables}
+use Rattle.store.specs.Signed.{SignedIntegers}
+use Rattle.programme.specs.Starts.{RunningStarts, ThreeWorked}
+use Rattle.calculus.specs.RuleNumbers.{RuleNumbers}
+use Rattle.calculus.specs.Faithful.{Faithfulness}
+use Rattle.calculus.specs.Ladder.{Ladder, Descent, Further, OwnRefusals, Budgets}
+use Rattle.calculus.specs.Isolation.{FullRules, Isolation}
+use Rattle.calculus.specs.Kept.{StepByStep, CapabilitySafety, WriteIntegrity}
+use Rattle.calculus.specs.Steps.{WhileLaw, StepsBounded}
+use Rattle.calculus.specs.Deputy.{ProvenanceSafety, DeputySafety}
+use Rattle.calculus.specs.Vectors.{VectorsHold}
+use Rattle.calculus.specs.Unrelated.{UnrelatedProtected}
+use Rattle.calculus.specs.Endorsed.{EndorsedIsolation, EndorsedWorked}
+use Rattle.calculus.specs.Whole.{WholeRunSafety, WholeWorked}
+use Rattle.calculus.specs.Descents.{DescentsHold}
+use Rattle.calculus.specs.Faults.{FaultsHold}
+
+pub record Promises : Type 0 where
+  -- Demand 1, "The table is good when ..": the tests of a table say that it is a partial order with meets and a top
+  pub good-tables : GoodTables
+  -- Demand 2: a run is exactly what the rule set says; a while is its own unrolling; steps grow up to the budget; P1 to P12, and the order of
+  -- refusals in a step
+  pub faithfulness : Faithfulness
+  pub while-law : WhileLaw
+  pub steps-bounded : StepsBounded
+  pub vectors-hold : VectorsHold
+  pub faults-hold : FaultsHold
+  -- Demand 3: isolation under full provenance, of all the rule numbers that mean it. An unrelated owner's slot is protected, and "no endorsed
+  -- block" cannot be dropped.
+  pub isolated : Isolation
+  pub full-rule : FullRules
+  pub unrelated-protected : UnrelatedProtected
+  pub endorsed-worked : EndorsedWorked
+  pub endorsed-not-isolated : EndorsedIsolation → ⊥
+  -- Document 02, N1: rule numbers
+  pub rule-numbers : RuleNumbers
+  -- Document 02, N2: the rule ladder and larger budgets; D1 to D26
+  pub ladder : Ladder
+  pub descent : Descent
+  pub budgets : Budgets
+  pub further : Further
+  pub own-refusals : OwnRefusals
+  pub descents-hold : DescentsHold
+  -- Document 02, N2, and source 003, theorems 2 and 5: what slots keep at every step. Over whole runs with endorsed blocks theorem 5 is false.
+  pub step-by-step : StepByStep
+  pub capability-safety : CapabilitySafety
+  pub write-integrity : WriteIntegrity
+  pub provenance-safety : ProvenanceSafety
+  pub deputy-safety : DeputySafety
+  pub whole-worked : WholeWorked
+  pub whole-run-not-safe : WholeRunSafety → ⊥
+  -- Document 02, N3: integers of 64 bits
+  pub signed-integers : SignedIntegers
+  -- Document 02, N4: the running start of blocks
+  pub running-starts : (p : List ℕ) → RunningStarts p
+  pub three-worked : ThreeWorked
