@@ -5,6 +5,7 @@ use mathlib.Core.Bool.{true, false, false≢true}
 use mathlib.Core.List.{List}
 use native.Mathlib.Decide.{decLt}
 use native.Mathlib.Omega.{arith}
+use lib.ListN.{length}
 use borrow.Author.Tests.{ltb-true, eqb-true}
 use borrow.Table.Steps.{cases}
 use Rattle.lattice.specs.Tests.{_and_, _or_}
@@ -25,7 +26,8 @@ use Rattle.calculus.specs.Rules.{capability, rulesOf, judgesViews}
 use Rattle.calculus.specs.Calculus.{Setting, Store, State, contents, inRegion, eval, permit, assignment, written, exec}
 use Rattle.calculus.specs.Blocks.{setting}
 use Rattle.calculus.specs.Isolation.{withinReach}
-use Rattle.calculus.specs.Kept.{Spares, BlocksSpare, CapabilitySafety}
+use Rattle.calculus.specs.Faithful.{Good}
+use Rattle.calculus.specs.Kept.{Spares, SlotsSpare, BlocksSpare, CapabilitySafety}
 use Rattle.calculus.proofs.Rules.{rules-one}
 use Rattle.calculus.proofs.Taint.{Tainted, Principal, Agree, agree-refl, agree-tainted, tainted-down}
 use Rattle.calculus.proofs.Invariant.{Ends, exec-ends, Slots, written-slots, eval-gives}
@@ -73,7 +75,7 @@ module _ (w : Setting) (a : Label) (u : Store) (P : Value → Type 0)
 
 module _ (w : Tables) (a : Label) (o : Ordered w) (in-a : Principal w a) (k : ℕ) (b : Block) where
   -- within reach, the region has no authority over a protected slot
-  gives-within : Tainted w a (b .header .region) → (s : Store) (e : Expr)
+  pub gives-within : Tainted w a (b .header .region) → (s : Store) (e : Expr)
       → Post (λ x. Low w a (x .value)) Any (eval (setting w capability k b) s e)
   unfolding judgesViews inRegion _and_
   gives-within l s e =
@@ -111,14 +113,29 @@ module _ (store : List ℕ) (o : Opening) (opens : Opens store o) (a : Label) wh
       go (yes h) = spares-low (o .tables) a _ (opens .formed j) (spares h)
       go (no h) = past-low j (omega arith)
 
+module _ (a : Label) (store programme : List ℕ) (budget : ℕ) (old : List ℕ) (g : Good store programme 1 budget (length old))
+    (in-a : a < g .opening .tables .order .n) (slots : SlotsSpare (g .opening .tables) a (g .opening .store))
+    (blocks : BlocksSpare (g .opening .tables) a programme) where
+  abbrev w : Tables
+  w = g .opening .tables
+
+  abbrev u : Store
+  u = g .opening .store
+
+  opens : Opens store (g .opening)
+  opens = post-at _ _ _ _ (store-opens store) (g .opens)
+
+  pub opening-safe : Safe w a u u
+  opening-safe = record { agree = agree-refl w a u; low = λ j. low-at store (g .opening) opens a j (λ h. slots j h) }
+
+  pub blocks-safe : (k j : ℕ) (b : Block) → IsBlock (w .slots) programme j b → Keeps (Safe w a u) w (g .rules) k j b
+  unfolding rulesOf
+  blocks-safe k j b is =
+      keeps-under _ w (g .rules) capability k j b (rules-one 1 capability (g .rules) refl (g .ruled))
+      (block-safe w a (opens .ordered) in-a u programme blocks k j b is)
+
 pub capability-safety : CapabilitySafety
-unfolding rulesOf
 capability-safety a store programme budget old g in-a slots blocks =
-    let opens = post-at _ _ _ _ (store-opens store) (g .opens) in
-    let w = g .opening .tables in
-    let u = g .opening .store in
-    protected-kept store programme 1 budget old g (Safe w a u)
-    (record { agree = agree-refl w a u; low = λ j. low-at store (g .opening) opens a j (λ h. slots j h) })
-    (λ k j b is. keeps-under _ w (g .rules) capability k j b (rules-one 1 capability (g .rules) refl (g .ruled))
-    (block-safe w a (opens .ordered) in-a u programme blocks k j b is))
+    protected-kept store programme 1 budget old g (Safe (g .opening .tables) a (g .opening .store))
+    (opening-safe a store programme budget old g in-a slots blocks) (blocks-safe a store programme budget old g in-a slots blocks)
     a (λ s m i p. m .agree .held i (p .above))

@@ -1,104 +1,134 @@
--- Theorem 5 of source 003 holds under rule 2. Assumes nothing.
-use Prim.Native.Nat.{ℕ, _*_, _<_}
-use mathlib.Core.Path.{_≡_, sym, ap, _∙_}
+-- Theorems 4 to 7 of source 003. Assumes nothing.
+use Prim.Native.Nat.{ℕ, _<_}
+use mathlib.Core.Path.{_≡_, refl, sym, ap, _∙_}
 use mathlib.Core.Logic.{inl, inr}
 use mathlib.Core.Bool.{true, false, true≢false}
 use mathlib.Core.List.{List}
-use lib.ListN.{getD, length}
+use native.Mathlib.Omega.{arith}
 use borrow.Table.Steps.{cases}
 use Rattle.lattice.specs.Order.{Label, below}
 use Rattle.store.specs.Result.{ok}
-use Rattle.store.specs.Bytes.{part}
-use Rattle.store.specs.declared.Value.{Value}
-use Rattle.store.specs.Value.{wellFormed, opened, emptySlot, slotWidth, slotBytes}
-use Rattle.store.specs.Sheet.{Tables, Opening, ownerOf, storeSheet}
-use Rattle.store.proofs.Result.{post-at}
+use Rattle.store.specs.Value.{opened, slotBytes}
+use Rattle.store.specs.Sheet.{Tables, ownerOf, storeSheet}
 use Rattle.programme.specs.declared.Header.{Header}
+use Rattle.programme.specs.Syntax.{Cmd, Literals}
+use Rattle.programme.specs.Code.{readBlock}
 use Rattle.programme.specs.Sheet.{kOf, headerAt, codeOf}
-use Rattle.programme.proofs.Formed.{block-literals}
+use Rattle.calculus.specs.Rules.{judgesViews}
 use Rattle.calculus.specs.Calculus.{Store, contents}
-use Rattle.calculus.specs.Blocks.{setting}
 use Rattle.calculus.specs.Run.{FinishedRun}
-use Rattle.calculus.specs.Faithful.{Good}
-use Rattle.calculus.specs.Isolation.{Protected, withinReach, Replaced, unchanged, exchanged, Replacement}
-use Rattle.calculus.specs.Deputy.{ProtectedSpare, BareBlocksSpare, NoneEndorsedOutside, DeputySafety}
-use Rattle.calculus.proofs.Invariant.{Slots, slots-keep}
-use Rattle.calculus.proofs.Good.{good-run}
-use Rattle.calculus.proofs.Kept.{put-out-keeps}
-use Rattle.calculus.proofs.Isolation.{opens}
-use Rattle.calculus.proofs.Direct.{direct-write}
+use Rattle.calculus.specs.Isolation.{withinReach, Replaced, unchanged, exchanged, Replacement, FullRule, byNumber, byDefault}
+use Rattle.calculus.specs.Kept.{Spares, BlocksSpare, ProtectedKept}
+use Rattle.calculus.specs.Deputy.{BareBlocksSpare, NoneEndorsedOutside, NoConfusedDeputy, EndAlike, Noninterference, CapabilityDeputySafety, DeputySafety, FullDeputySafety, NoninterferenceSuffices, IsolationSuffices}
+use Rattle.calculus.proofs.Rules.{views-judged}
+use Rattle.calculus.proofs.Invariant.{Slots}
+use Rattle.calculus.proofs.Isolation.{forth}
+use Rattle.calculus.proofs.Ended.{endGood, endStore, end-part, end-keeps, end-formed, end-kept}
+use Rattle.calculus.proofs.Capability.{Low, Safe, opening-safe, blocks-safe, capability-safety}
 use Rattle.calculus.proofs.Provenance.{provenance-safety}
+use Rattle.calculus.proofs.Direct.{direct-write}
 
 -- What a replacement leaves outside the adversary's reach
 
 module _ (w : Tables) (a : Label) (p q : List ℕ) (r : Replacement w a p q) where
-  -- the block is one of p's, as it was
-  record Left (i : ℕ) : Type 0 where
-    pub inside : i < kOf p
-    pub header : headerAt q i ≡ headerAt p i
-    pub code : codeOf q i ≡ codeOf p i
-
-  left : (i : ℕ) → i < kOf q → withinReach w a q i ≡ false → Left i
-  left i h out = let k : i < kOf p = rw (r .count) at h in go k (r .each i k)
+  -- what holds of each of p's blocks there holds of q's
+  pub outside-left : (P : Header → List ℕ → Type 0) → ((i : ℕ) → i < kOf p → withinReach w a p i ≡ false → P (headerAt p i) (codeOf p i))
+      → (i : ℕ) → i < kOf q → withinReach w a q i ≡ false → P (headerAt q i) (codeOf q i)
+  outside-left P each i h out = let k : i < kOf p = rw (r .count) at h in go k (r .each i k)
     where
-      go : i < kOf p → Replaced w a p q i → Left i
-      go k (unchanged e c) = record { inside = k; header = e; code = c }
+      go : i < kOf p → Replaced w a p q i → P (headerAt q i) (codeOf q i)
+      go k (unchanged e c) = rw (e, c) (each i k (sym (ap (λ (h : Header). below (w .order) (h .region) a) e) ∙ out))
       go k (exchanged x y) = absurd (true≢false (sym y ∙ out))
 
-  still-outside : (i : ℕ) → headerAt q i ≡ headerAt p i → withinReach w a q i ≡ false → withinReach w a p i ≡ false
-  still-outside i e out = sym (ap (λ (h : Header). below (w .order) (h .region) a) e) ∙ out
+  abbrev CodeSpares : List ℕ → Type 0
+  CodeSpares code = (c : Cmd) → readBlock (w .slots) code ≡ ok c → Literals (Spares w a) c
 
-  spare-left : BareBlocksSpare w a p → BareBlocksSpare w a q
-  spare-left spare i h out bare c e =
-      let l = left i h out in
-      spare i (l .inside) (still-outside i (l .header) out) (sym (ap (λ (x : Header). x .endorsed) (l .header)) ∙ bare) c (rw (l .code) at e)
+  spare-left : BlocksSpare w a p → BlocksSpare w a q
+  spare-left = outside-left (λ _ code. CodeSpares code)
+
+  bare-spare-left : BareBlocksSpare w a p → BareBlocksSpare w a q
+  bare-spare-left = outside-left (λ header code. header .endorsed ≡ false → CodeSpares code)
 
   bare-left : NoneEndorsedOutside w a p → NoneEndorsedOutside w a q
-  bare-left bare i h out =
-      let l = left i h out in
-      ap (λ (x : Header). x .endorsed) (l .header) ∙ bare i (l .inside) (still-outside i (l .header) out)
+  bare-left = outside-left (λ header _. header .endorsed ≡ false)
 
-module _ (store : List ℕ) (w : Tables) (s : Store) (sheet : storeSheet store ≡ ok (record { tables = w; store = s })) where
-  abbrev o : Opening
-  o = record { tables = w; store = s }
+-- From what a rule gives to no confused deputy
 
-  module _ (q out : List ℕ) (x : FinishedRun 2 store q out) where
-    abbrev good : Good store q 2 (x .budget) (length (x .old))
-    good = good-run store q 2 (x .budget) (length (x .old)) o sheet (x .finishes)
+module _ (rule : ℕ) (store : List ℕ) (w : Tables) (s : Store) (sheet : storeSheet store ≡ ok (record { tables = w; store = s }))
+    (a : Label) (in-a : a < w .order .n) (p : List ℕ) where
+  kept-alike : ((q out : List ℕ) → Replacement w a p q → (x : FinishedRun rule store q out)
+      → ProtectedKept a store q rule (x .budget) (x .old) (endGood rule store w s sheet q out x)) → EndAlike rule w a p store store
+  kept-alike k q q′ _ _ r r′ out out′ x x′ i b =
+      end-kept rule store w s sheet q out x a (k q out r x) i b ∙ sym (end-kept rule store w s sheet q′ out′ x′ a (k q′ out′ r′ x′) i b)
 
-    -- a value that is put out is well-formed
-    record Put (i : ℕ) : Type 0 where
-      pub value : Value
-      pub formed : wellFormed (w .slots) value ≡ true
-      pub bytes : part out (slotWidth * i) slotWidth ≡ slotBytes (opened value)
+  -- where the rules judge views, no slot ends with a write view of a protected slot
+  abbrev EndsLow : Type 0
+  EndsLow =
+      (q out : List ℕ) → Replacement w a p q → (x : FinishedRun rule store q out)
+      → judgesViews (endGood rule store w s sheet q out x .rules) ≡ true → Slots (Low w a) (endStore rule store w s sheet q out x)
 
-    put : (i : ℕ) → i < w .slots → Put i
-    unfolding slotBytes opened
-    put i h =
-        let y =
-        put-out-keeps store q 2 (x .budget) (x .old) good (Slots (λ v. wellFormed (w .slots) v ≡ true)) (opens store w s sheet .formed)
-        (λ k j b is. slots-keep _ (setting w (good .rules) k b) (b .command) (post-at _ _ _ _ (block-literals _ _) (is .code)) _) (x .finishes) in
-        record {
-          value = contents (y .0) i;
-          formed = y .1 i;
-          bytes = ap (λ (l : List ℕ). part l (slotWidth * i) slotWidth) (x .ends) ∙ y .2 i h;
-        }
+  others-low : (rule ≡ 1 → ⊥) → EndsLow
+  others-low other q out r x e = let g = endGood rule store w s sheet q out x in absurd (other (views-judged rule (g .rules) (g .ruled) e))
 
-    -- a protected slot ends as it opened
-    kept : (a : Label) → a < w .order .n → ProtectedSpare w a s → BareBlocksSpare w a q → NoneEndorsedOutside w a q
-        → (i : ℕ) → Protected w a i → part out (slotWidth * i) slotWidth ≡ slotBytes (getD s i emptySlot)
-    kept a in-a slots spare bare i p =
-        ap (λ (l : List ℕ). part l (slotWidth * i) slotWidth) (x .ends)
-        ∙ provenance-safety a store q (x .budget) (x .old) good in-a slots spare bare .put-out (x .finishes) i p
+  -- a protected slot is not the adversary's to control, and any other it can write directly
+  no-confused-deputy : EndAlike rule w a p store store → EndsLow → NoConfusedDeputy rule w a store p
+  unfolding slotBytes opened
+  no-confused-deputy alike low q out b r x i h =
+      cases (below (w .order) (ownerOf w i) a)
+      (λ own. let g = endGood rule store w s sheet q out x in
+      inr (
+      direct-write rule (g .rules) (g .ruled) store w s sheet a in-a i h own (contents (endStore rule store w s sheet q out x) i)
+      (end-formed rule store w s sheet q out x i) (λ e. low q out r x e i) out (end-part rule store w s sheet q out x i h)))
+      (λ above. inl (λ q′ out′ b′ r′ x′. alike q q′ b b′ r r′ out out′ x x′ i (record { inside = h; above = above })))
 
-pub deputy-safety : DeputySafety
-deputy-safety a store p w s in-a sheet slots spare bare q out r x i h =
-    cases (below (w .order) (ownerOf w i) a)
-    (λ own. let y = put store w s sheet q out x i h in
-    inr (direct-write store w s sheet a in-a i h own (y .value) (y .formed) out (y .bytes)))
-    (λ above. let protected : Protected w a i = record { inside = h; above = above } in
-    inl (λ q′ out′ r′ x′. ends q out r x protected ∙ sym (ends q′ out′ r′ x′ protected)))
+-- Theorem 4
+pub capability-deputy-safety : CapabilityDeputySafety
+capability-deputy-safety a store p w s in-a sheet spare =
+    no-confused-deputy 1 store w s sheet a in-a p
+    (kept-alike 1 store w s sheet a in-a p (λ q out r x.
+    capability-safety a store q (x .budget) (x .old) (endGood 1 store w s sheet q out x) in-a (spare .0) (spare-left w a p q r (spare .1))))
+    low
   where
-    ends : (q out : List ℕ) → Replacement w a p q → FinishedRun 2 store q out → Protected w a i
-        → part out (slotWidth * i) slotWidth ≡ slotBytes (getD s i emptySlot)
-    ends q out r x = kept store w s sheet q out x a in-a slots (spare-left w a p q r spare) (bare-left w a p q r bare) i
+    low : EndsLow 1 store w s sheet a in-a p
+    low q out r x _ =
+        let g = endGood 1 store w s sheet q out x in
+        let blocks = spare-left w a p q r (spare .1) in
+        end-keeps 1 store w s sheet q out x (Safe w a s) (opening-safe a store q (x .budget) (x .old) g in-a (spare .0) blocks)
+        (blocks-safe a store q (x .budget) (x .old) g in-a (spare .0) blocks) .low
+
+-- Theorem 5
+pub deputy-safety : DeputySafety
+deputy-safety a store p w s in-a sheet spare =
+    no-confused-deputy 2 store w s sheet a in-a p
+    (kept-alike 2 store w s sheet a in-a p (λ q out r x.
+    provenance-safety a store q (x .budget) (x .old) (endGood 2 store w s sheet q out x) in-a (spare .0)
+    (bare-spare-left w a p q r (spare .1)) (bare-left w a p q r (spare .2))))
+    (others-low 2 store w s sheet a in-a p (λ e. omega arith))
+
+-- Theorem 7
+pub noninterference-suffices : NoninterferenceSuffices
+noninterference-suffices rule other a store p w s in-a sheet alike =
+    no-confused-deputy rule store w s sheet a in-a p (alike store store s s sheet sheet (λ i b. refl)) (others-low rule store w s sheet a in-a p other)
+
+-- Theorem 6, by the source's way: full provenance gives noninterference
+full-noninterference : (rule : ℕ) → FullRule rule → (w : Tables) (a : Label) (p : List ℕ) → a < w .order .n → NoneEndorsedOutside w a p
+    → Noninterference rule w a p
+full-noninterference rule full w a p in-a bare store store′ s s′ sheet sheet′ agree q q′ _ _ r r′ out out′ x x′ =
+    forth a store store′ w s s′ sheet sheet′ in-a agree p bare q q′ r r′ out out′
+    (record { rule = rule; full = full; run = x }) (record { rule = rule; full = full; run = x′ })
+
+full-not-1 : (rule : ℕ) → FullRule rule → rule ≡ 1 → ⊥
+full-not-1 rule (byNumber e) h = omega arith
+full-not-1 rule (byDefault e) h = omega arith
+
+pub full-deputy-safety : FullDeputySafety
+full-deputy-safety rule full a store p w s in-a sheet bare =
+    noninterference-suffices rule (full-not-1 rule full) a store p w s in-a sheet (full-noninterference rule full w a p in-a bare)
+
+-- Theorem 7 from demand 3
+pub isolation-suffices : IsolationSuffices
+isolation-suffices a store p w s in-a sheet agree d bare rule full =
+    no-confused-deputy rule store w s sheet a in-a p
+    (λ q q′ b b′ r r′ out out′ x x′.
+    agree p d bare q q′ b b′ r r′ out out′ (record { rule = rule; full = full; run = x }) (record { rule = rule; full = full; run = x′ }))
+    (others-low rule store w s sheet a in-a p (full-not-1 rule full))

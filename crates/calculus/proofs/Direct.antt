@@ -1,6 +1,6 @@
--- The adversary can write a slot that is not protected from it directly: one block of its own assigns a literal. Under rule 2.
--- Assumes nothing.
-use Prim.Native.Nat.{ℕ, zero, suc, _+_, _*_, _%_, _≤_, _<_}
+-- The adversary can write a slot that is not protected from it directly: one block of its own assigns a literal. Under every rule number,
+-- where under rule 1 the value must be one that such a block may hold. Assumes nothing.
+use Prim.Native.Nat.{ℕ, zero, suc, _+_, _*_, _/_, _%_, _≤_, _<_}
 use mathlib.Core.Path.{_≡_, refl, sym, ap, ap₂, _∙_}
 use mathlib.Core.Logic.{_⊎_, inl, inr, ⊎-elim}
 use mathlib.Core.Bool.{Bool, true, false}
@@ -10,15 +10,16 @@ use lib.ListN.{getD, length, set, replicate, length-replicate}
 use lib.Dec.{ltb}
 use lib.Seq.{getD-set-same}
 use borrow.Author.Tests.{ltb-true, lt-ltb, le-leb, lt-leb, eqb-true, eq-eqb}
-use Rattle.lattice.specs.Tests.{_and_, _or_, _implies_, every}
+use Rattle.lattice.specs.Tests.{_and_, _or_, every}
+use Rattle.lattice.specs.declared.Table.{Table}
 use Rattle.lattice.specs.Order.{Label, mostPrincipals, below, top}
-use Rattle.lattice.proofs.Tests.{and-l, and-r, or-at, or-l}
+use Rattle.lattice.proofs.Tests.{and-l, and-r, or-at, or-l, imp-of}
 use Rattle.lattice.proofs.Order.{Good, good-at, below-top}
 use Rattle.store.specs.declared.Answer.{Answer}
 use Rattle.store.specs.Result.{Result, ok, _>>=_, require, refusedAs}
-use Rattle.store.specs.Bytes.{numberAt, numberBytes, part}
+use Rattle.store.specs.Bytes.{Bytes, numberAt, numberBytes, part}
 use Rattle.store.specs.declared.Value.{Value}
-use Rattle.store.specs.Value.{valueWidth, integer, truth, readView, writeView, kinds, is, wellFormed, valueAt, valueBytes, opened, assigned, emptySlot, slotWidth, slotBytes}
+use Rattle.store.specs.Value.{payloadWidth, valueWidth, integer, truth, readView, writeView, kinds, is, wellFormed, valueAt, valueBytes, opened, assigned, emptySlot, slotWidth, slotBytes}
 use Rattle.store.specs.Sheet.{Tables, ownerOf, mostSlots, storeSheet}
 use Rattle.store.proofs.Bytes.{value-read, value-again}
 use Rattle.store.proofs.Opening.{Opens}
@@ -26,14 +27,16 @@ use Rattle.programme.specs.Syntax.{literal, cmd, assign}
 use Rattle.programme.specs.Code.{upTo, readValue, exprBy, readExpr, exprAt, sorted, cmdByte, readAssign, bodyBy, readBody, readBlock}
 use Rattle.programme.specs.Sheet.{Block, kOf, endorsedBit, headerOf, startOf, headerGood, blockAt, blocksFrom, programmeSheet}
 use Rattle.programme.proofs.Values.{expr-is-literal}
-use Rattle.calculus.specs.Rules.{explicitProvenance, rulesOf, judgesViews, judgesRegion, labelsJudged, allAbove}
-use Rattle.calculus.specs.Calculus.{Store, State, inRegion, admit, eval, authorised, reliable, permit, assignment, counted, written, performed, step, exec, execBody}
-use Rattle.calculus.specs.Blocks.{runBlocks, start}
+use Rattle.calculus.specs.Rules.{RuleSet, accessControl, capability, explicitProvenance, fullProvenance, rulesOf, judgesViews, labelsJudged, allAbove}
+use Rattle.calculus.specs.Calculus.{Setting, Store, State, inRegion, mayHold, admit, eval, authorised, reliable, permit, assignment, counted, written, performed, step, exec, execBody}
+use Rattle.calculus.specs.Blocks.{setting, runBlocks, start}
 use Rattle.calculus.specs.Run.{Finished, runProgramme, runOpened, runUnder, run, answerOf, output}
 use Rattle.calculus.specs.Vectors.{lit, one}
 use Rattle.calculus.specs.Isolation.{withinReach}
 use Rattle.calculus.specs.Deputy.{DirectWrite}
 use Rattle.calculus.proofs.Isolation.{output-part, opens}
+use Rattle.calculus.proofs.Taint.{Tainted}
+use Rattle.calculus.proofs.Capability.{Low}
 
 -- Values
 
@@ -46,7 +49,7 @@ view i = record { kind = writeView; payload = i }
 
 module _ (m : ℕ) (l : m ≤ mostSlots) (v : Value) (h : wellFormed m v ≡ true) where
   -- a value that is well-formed is an integer, or its payload is small
-  formed-cases : (v .kind ≡ integer) ⊎ ((v .kind < kinds) × (v .payload < mostSlots))
+  pub formed-cases : (v .kind ≡ integer) ⊎ ((v .kind < kinds) × (v .payload < mostSlots))
   unfolding wellFormed
   formed-cases =
       ⊎-elim
@@ -67,6 +70,16 @@ module _ (m : ℕ) (l : m ≤ mostSlots) (v : Value) (h : wellFormed m v ≡ tru
   integer-again : v .kind ≡ integer → wellFormed m (again v) ≡ true
   unfolding wellFormed valueAt valueBytes
   integer-again e = or-l _ _ (or-l _ _ (eq-eqb (v .kind % 256) integer (omega arith)))
+
+  again-integer : v .kind ≡ integer → again v .kind ≡ integer
+  unfolding valueAt valueBytes
+  again-integer e = omega arith
+
+  -- what it may view when it is read back it may view already
+  low-again : (w : Tables) (a : Label) → Low w a v → Low w a (again v)
+  low-again w a low =
+      ⊎-elim (λ e t. absurd (omega (arith, again-integer e, eqb-true (again v .kind) writeView t)))
+      (λ x. rw (value-read v (omega arith) (omega arith)) low) formed-cases
 
   -- so it is well-formed when it is read back
   formed-again : wellFormed m (again v) ≡ true
@@ -123,24 +136,75 @@ programme-read : (n m : ℕ) (a : Label) (i : ℕ) (v : Value) → n ≤ mostPri
 unfolding programmeSheet headerGood blockAt blocksFrom startOf every _and_ _>>=_ require refusedAs numberAt valueBytes numberBytes
 programme-read n m a i v few l in-a h f = rw (header-read a (omega arith), lt-ltb a n in-a, code-read m i v l h f)
 
+-- and it is a sheet: its numbers are bytes
+unfoldable AllBytes : List ℕ → Type 0
+AllBytes [] = Unit {0}
+AllBytes (b ∷ s) = (b < 256) × AllBytes s
+
+all-bytes : (s : List ℕ) → AllBytes s → Bytes s
+unfolding AllBytes
+all-bytes [] d i = omega arith
+all-bytes (b ∷ s) d zero = d .0
+all-bytes (b ∷ s) d (suc i) = all-bytes s (d .1) i
+
+number-bytes : (width x : ℕ) (s : List ℕ) → AllBytes s → AllBytes (numberBytes width x ++ s)
+unfolding numberBytes AllBytes
+number-bytes zero x s d = d
+number-bytes (suc width) x s d = (omega arith, number-bytes width (x / 256) s d)
+
+literal-bytes : (v : Value) (s : List ℕ) → AllBytes s → AllBytes (lit (valueBytes v) ++ s)
+unfolding valueBytes AllBytes
+literal-bytes v s d = (omega arith, (omega arith, number-bytes payloadWidth (v .payload) s d))
+
+programme-bytes : (a : Label) (i : ℕ) (v : Value) → a < endorsedBit → Bytes (programme a i v)
+unfolding valueBytes numberBytes AllBytes
+programme-bytes a i v h =
+    let coded : AllBytes (code i v ++ []) = (omega arith, literal-bytes (view i) (lit (valueBytes v) ++ []) (literal-bytes v [] tt)) in
+    let sized : AllBytes (size ∷ 0 ∷ (code i v ++ [])) = (omega arith, (omega arith, coded)) in
+    all-bytes (programme a i v) (omega arith, (omega arith, (omega arith, (omega arith, sized))))
+
 -- The run
 
 -- the state after the one step
 abbrev after : ℕ → Value → Store → State
 after i v s = record { store = set s i (assigned (again v) (getD s i emptySlot)); steps = 1 }
 
--- the slot's owner is at or below the region, and at or below the top, the label of both literals
-block-run : (w : Tables) (a : Label) (i : ℕ) (v : Value) (s : Store) → below (w .order) (ownerOf w i) a ≡ true
-    → below (w .order) (ownerOf w i) (top (w .order)) ≡ true
-    → runBlocks w explicitProvenance 1 0 (block a i v ∷ []) (start s) ≡ ok (after i v s)
-unfolding _>>=_ require refusedAs _and_ _or_ _implies_ judgesViews judgesRegion labelsJudged allAbove
-    inRegion admit eval authorised reliable permit assignment counted written performed step exec execBody runBlocks start
-block-run w a i v s own high = rw (own, high)
+-- whatever the rules judge of two literals at a block's start has the top label
+judged-top : (rules : RuleSet) (t : Table) (o l : Label) → below t o l ≡ true → allAbove t o (labelsJudged rules l l l) ≡ true
+unfolding labelsJudged allAbove _and_
+judged-top accessControl t o l h = refl
+judged-top capability t o l h = refl
+judged-top explicitProvenance t o l h = rw h refl
+judged-top fullProvenance t o l h = rw h refl
 
-module _ (store : List ℕ) (w : Tables) (s : Store) (sheet : storeSheet store ≡ ok (record { tables = w; store = s }))
+module _ (rules : RuleSet) (w : Tables) (a : Label) (i : ℕ) (v : Value) (s : Store) (own : Tainted w a (ownerOf w i))
+    (high : below (w .order) (ownerOf w i) (top (w .order)) ≡ true) (low : judgesViews rules ≡ true → Low w a (again v)) where
+  abbrev within : Setting
+  within = setting w rules 1 (block a i v)
+
+  holds-view : mayHold within (view i) ≡ true
+  unfolding inRegion
+  holds-view = imp-of _ _ (λ _. own)
+
+  holds-value : mayHold within (again v) ≡ true
+  unfolding inRegion
+  holds-value = imp-of _ _ (λ e. low (and-l _ _ e) (and-r _ _ e))
+
+  may-write : authorised within i ≡ true
+  unfolding authorised inRegion
+  may-write = imp-of _ _ (λ _. own)
+
+  -- the slot's owner is at or below the region, and at or below the top, the label of both literals and of the branch
+  block-run : runBlocks w rules 1 0 (block a i v ∷ []) (start s) ≡ ok (after i v s)
+  unfolding _>>=_ require refusedAs _or_
+      admit eval reliable permit assignment counted written performed step exec execBody runBlocks start
+  block-run = rw (holds-view, holds-value, may-write, judged-top rules (w .order) (ownerOf w i) (top (w .order)) high)
+
+module _ (rule : ℕ) (rules : RuleSet) (ruled : rulesOf rule ≡ ok rules)
+    (store : List ℕ) (w : Tables) (s : Store) (sheet : storeSheet store ≡ ok (record { tables = w; store = s }))
     (adversary : Label) (in-a : adversary < w .order .n)
-    (i : ℕ) (in-i : i < w .slots) (own : below (w .order) (ownerOf w i) adversary ≡ true)
-    (v : Value) (formed : wellFormed (w .slots) v ≡ true) where
+    (i : ℕ) (in-i : i < w .slots) (own : Tainted w adversary (ownerOf w i))
+    (v : Value) (formed : wellFormed (w .slots) v ≡ true) (low : judgesViews rules ≡ true → Low w adversary v) where
   o : Opens store (record { tables = w; store = s })
   o = opens store w s sheet
 
@@ -156,22 +220,23 @@ module _ (store : List ℕ) (w : Tables) (s : Store) (sheet : storeSheet store �
   abbrev ending : Finished
   ending = record { blocks = 1; slots = w .slots; state = after i v s }
 
-  sent-run : run store sent 2 1 (length blank) ≡ ok ending
-  unfolding runProgramme runOpened runUnder run rulesOf _>>=_ require refusedAs
+  sent-run : run store sent rule 1 (length blank) ≡ ok ending
+  unfolding runProgramme runOpened runUnder run _>>=_ require refusedAs
   sent-run =
       let high = below-top (w .order) (o .ordered .table) (ownerOf w i) (o .ordered .owners i) in
       rw (
+        ruled,
         sheet,
         programme-read (w .order .n) (w .slots) adversary i v (t .few) (o .small) in-a in-i formed,
         eq-eqb (length blank) (slotWidth * w .slots) (length-replicate _ _),
-        block-run w adversary i v s own high,
+        block-run rules w adversary i v s own high (λ e. low-again (w .slots) (o .small) v formed w adversary (low e)),
       )
 
   -- what is read back has v's bytes
-  sent-part : part (output store sent 2 1 blank) (slotWidth * i) slotWidth ≡ slotBytes (opened v)
+  sent-part : part (output store sent rule 1 blank) (slotWidth * i) slotWidth ≡ slotBytes (opened v)
   unfolding slotBytes opened assigned
   sent-part =
-      output-part store sent blank 2 1 ending sent-run i in-i
+      output-part store sent blank rule 1 ending sent-run i in-i
       ∙ ap slotBytes (getD-set-same s i _ emptySlot (omega (arith, o .small, o .sized))) ∙ value-again v
 
   sent-reached : (j : ℕ) → j < kOf sent → withinReach w adversary sent j ≡ true
@@ -179,12 +244,13 @@ module _ (store : List ℕ) (w : Tables) (s : Store) (sheet : storeSheet store �
   sent-reached zero h = rw (header-read adversary (omega (arith, t .few))) (t .self adversary in-a)
   sent-reached (suc j) h = absurd (omega arith)
 
-  pub direct-write : (out : List ℕ) → part out (slotWidth * i) slotWidth ≡ slotBytes (opened v) → DirectWrite 2 w adversary store i out
+  pub direct-write : (out : List ℕ) → part out (slotWidth * i) slotWidth ≡ slotBytes (opened v) → DirectWrite rule w adversary store i out
   unfolding answerOf
   direct-write out e =
       record {
         programme = sent;
-        end = output store sent 2 1 blank;
+        end = output store sent rule 1 blank;
+        sendable = programme-bytes adversary i v (omega (arith, t .few));
         reached = sent-reached;
         finished =
             record {

@@ -82,9 +82,12 @@ module _ (F : Value → Type 0) where
   abbrev pub Slots : Store → Type 0
   Slots s = (j : ℕ) → F (contents s j)
 
-  pub written-slots : (x : Write) (s : Store) → F (x .value) → Slots s → Slots (written x s)
+  pub written-slot : (x : Write) (s : Store) (j : ℕ) → F (x .value) → F (contents s j) → F (contents (written x s) j)
   unfolding written assigned
-  written-slots x s p q j = set-either (λ (t : Slot). F (t .value)) s (x .slot) j _ emptySlot p (q j)
+  written-slot x s j p q = set-either (λ (t : Slot). F (t .value)) s (x .slot) j _ emptySlot p q
+
+  pub written-slots : (x : Write) (s : Store) → F (x .value) → Slots s → Slots (written x s)
+  written-slots x s p q j = written-slot x s j p (q j)
 
   module _ (w : Setting) where
     -- holds of every expression's value ..
@@ -95,17 +98,18 @@ module _ (F : Value → Type 0) where
         post-bind _ _ _ _ _ (eval-gives s e l m) λ x _.
         post-require _ _ _ _ _ (λ _. post-require _ _ _ _ _ (λ _. post-ok _ _ _ (m _)) (λ _. tt)) (λ _. tt)
 
-    assignment-gives : (branch : Label) (s : Store) (t v : Expr) → LiteralOf F v → Slots s
+    -- .. of the value that is assigned ..
+    pub assignment-gives : (branch : Label) (s : Store) (t v : Expr) → Post (λ x. F (x .value)) Any (eval w s v)
         → Post (λ x. F (x .value)) Any (assignment w branch s t v)
     unfolding assignment permit
-    assignment-gives branch s t v l m =
+    assignment-gives branch s t v given =
         post-bind (λ _. Unit {0}) _ _ _ _ (post-all _ _ _ (λ _. tt) (λ _. tt)) λ x _.
         post-require _ _ _ _ _
-        (λ _. post-bind _ _ _ _ _ (eval-gives s v l m) λ y p.
+        (λ _. post-bind _ _ _ _ _ given λ y p.
         post-require _ _ _ _ _ (λ _. post-require _ _ _ _ _ (λ _. post-ok _ _ _ p) (λ _. tt)) (λ _. tt)) (λ _. tt)
 
     -- .. and of every slot's value, as long as the run goes
     pub slots-keep : (c : Cmd) → Literals F c → (branch : Label) (s : State) → Slots (s .store) → Ends Slots (exec w c branch s)
     slots-keep =
         exec-ends w Slots F
-        (λ branch s t v _ l m. post-map _ _ _ _ _ (assignment-gives branch s t v l m) (λ x p. written-slots x s p m) (λ _ _. tt))
+        (λ branch s t v _ l m. post-map _ _ _ _ _ (assignment-gives branch s t v (eval-gives s v l m)) (λ x p. written-slots x s p m) (λ _ _. tt))

@@ -7,6 +7,7 @@ use native.Mathlib.Omega.{arith}
 use native.Mathlib.Decide.{decLt}
 use lib.ListN.{getD, length, replicate, length-replicate}
 use borrow.Author.Tests.{eq-eqb}
+use borrow.Table.Steps.{cases}
 use Rattle.lattice.specs.Tests.{_and_, every}
 use Rattle.lattice.specs.Order.{Label, below}
 use Rattle.store.specs.declared.Answer.{Answer}
@@ -32,7 +33,8 @@ use Rattle.calculus.proofs.Taint.{Tainted, Agree}
 use Rattle.calculus.proofs.Noninterference.{Alike, Opposite, alike, reached, blocks-isolated}
 use Rattle.calculus.specs.Run.{Finished, runProgramme, runOpened, runUnder, run, answerOf, outputOf, output}
 use Rattle.calculus.specs.Vectors.{none}
-use Rattle.calculus.specs.Isolation.{withinReach, StoresAgree, OutputsAgree, Replaced, unchanged, exchanged, Replacement, NoneEndorsed, FullRule, byNumber, byDefault, FullRules, FullRun, RunsAgree, Isolation}
+use Rattle.calculus.specs.Isolation.{withinReach, StoresAgree, OutputsAgree, Replaced, unchanged, exchanged, Replacement, FullRule, byNumber, byDefault, FullRules, FullRun, RunsAgree, Isolation}
+use Rattle.calculus.specs.Deputy.{NoneEndorsedOutside}
 use Rattle.calculus.proofs.Finished.{run-finished}
 
 -- Rule numbers
@@ -81,11 +83,14 @@ module _ (w : Tables) (a : Label) where
   stays p q i (unchanged e c) l = ap (λ (h : Header). below (w .order) (h .region) a) e ∙ l
   stays p q i (exchanged x y) l = y
 
-  opposite : (m : ℕ) (p q q′ : List ℕ) (i : ℕ) → headerAt p i .endorsed ≡ false → Replaced w a p q i → Replaced w a p q′ i
-      → Post₂ (Opposite w a) (blockAt m q i) (blockAt m q′ i)
+  -- within reach a block may be endorsed
+  opposite : (m : ℕ) (p q q′ : List ℕ) (i : ℕ) → (withinReach w a p i ≡ false → headerAt p i .endorsed ≡ false)
+      → Replaced w a p q i → Replaced w a p q′ i → Post₂ (Opposite w a) (blockAt m q i) (blockAt m q′ i)
   unfolding blockAt
   opposite m p q q′ i bare (unchanged e c) (unchanged e′ c′) =
-      same-block m i _ _ _ _ (e ∙ sym e′) (c ∙ sym c′) (ap (λ (h : Header). h .endorsed) e′ ∙ bare)
+      cases (withinReach w a p i)
+      (λ l. reached-block m i _ _ _ _ (stays p q i (unchanged e c) l) (stays p q′ i (unchanged e′ c′) l))
+      (λ l. same-block m i _ _ _ _ (e ∙ sym e′) (c ∙ sym c′) (ap (λ (h : Header). h .endorsed) e′ ∙ bare l))
   opposite m p q q′ i bare (unchanged e c) (exchanged x y) = reached-block m i _ _ _ _ (stays p q i (unchanged e c) x) y
   opposite m p q q′ i bare (exchanged x y) r = reached-block m i _ _ _ _ y (stays p q′ i r x)
 
@@ -98,7 +103,7 @@ module _ (w : Tables) (a : Label) where
 
   module _ (o : Ordered w) (in-a : a < w .order .n) (store store′ : List ℕ) (s s′ : Store)
       (sheet : storeSheet store ≡ ok (record { tables = w; store = s })) (sheet′ : storeSheet store′ ≡ ok (record { tables = w; store = s′ }))
-      (m : Agree w a s s′) (p q q′ : List ℕ) (bare : NoneEndorsed p) (r : Replacement w a p q) (r′ : Replacement w a p q′) where
+      (m : Agree w a s s′) (p q q′ : List ℕ) (bare : NoneEndorsedOutside w a p) (r : Replacement w a p q) (r′ : Replacement w a p q′) where
     programmes-opposite : Post₂ (Each (Opposite w a)) (programmeSheet (w .order .n) (w .slots) q) (programmeSheet (w .order .n) (w .slots) q′)
     programmes-opposite =
         programmes₂ (Opposite w a) _ _ q q′ (r′ .count ∙ sym (r .count))
@@ -182,9 +187,9 @@ module _ (a : Label) (store store′ : List ℕ) (w : Tables) (s s′ : Store)
       go i p (yes l) = h i (record { inside = l; above = p })
       go i p (no l) = opens store w s sheet .outside i (omega arith) ∙ sym (opens store′ w s′ sheet′ .outside i (omega arith))
 
-  -- the way forth needs no bytes: it holds of any lists of numbers
+  -- the way forth needs no bytes: it holds of any lists of numbers, and where no block outside the adversary's reach is endorsed
   pub forth : a < w .order .n → StoresAgree w a s s′
-      → (p : List ℕ) → NoneEndorsed p → (q q′ : List ℕ) → Replacement w a p q → Replacement w a p q′
+      → (p : List ℕ) → NoneEndorsedOutside w a p → (q q′ : List ℕ) → Replacement w a p q → Replacement w a p q′
       → (out out′ : List ℕ) → FullRun store q out → FullRun store′ q′ out′ → OutputsAgree w a out out′
   forth in-a h p bare q q′ r r′ out out′ x x′ i b =
       let f = run-finished store q (x .rule) (x .run .budget) (length (x .run .old)) (x .run .finishes) in
@@ -215,6 +220,6 @@ module _ (a : Label) (store store′ : List ℕ) (w : Tables) (s s′ : Store)
 -- Demand 3
 pub isolated : Isolation
 isolated a store store′ w s s′ in-a d d′ sheet sheet′ = (
-  λ h p _ bare q q′ _ _ r r′. forth a store store′ w s s′ sheet sheet′ in-a h p bare q q′ r r′,
+  λ h p _ bare q q′ _ _ r r′. forth a store store′ w s s′ sheet sheet′ in-a h p (λ i l _. bare i l) q q′ r r′,
   back a store store′ w s s′ sheet sheet′ d d′,
 )

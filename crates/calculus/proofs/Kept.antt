@@ -67,7 +67,8 @@ module _ (store programme : List ℕ) (rule budget : ℕ) (old : List ℕ) (g : 
 
   module _ (I : Store → Type 0) (opens : I (g .opening .store))
       (keeps : (k j : ℕ) (b : Block) → IsBlock (w .slots) programme j b → Keeps I w (g .rules) k j b) where
-    run-keeps : (k : ℕ) → RunEnds I (runBlocks w (g .rules) k 0 (g .blocks) (start (g .opening .store)))
+    -- after any number of steps
+    pub run-keeps : (k : ℕ) → RunEnds I (runBlocks w (g .rules) k 0 (g .blocks) (start (g .opening .store)))
     unfolding start
     run-keeps k = blocks-keep I w (g .rules) k 0 (g .blocks) (placed-map _ _ _ _ (keeps k) blocks-placed) _ opens
 

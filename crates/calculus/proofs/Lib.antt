@@ -24,9 +24,11 @@ pub mod Stepwise
 pub mod Capability
 pub mod Integrity
 pub mod Provenance
+pub mod Ended
 pub mod Direct
 pub mod Deputy
 pub mod Whole
+pub mod Chosen
 pub mod Endorsed
 pub mod Unrelated
 pub mod Vectors

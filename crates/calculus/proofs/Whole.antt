@@ -14,6 +14,7 @@ use Rattle.store.specs.Bytes.{part, numberAt, numberBytes, table, filled}
 use Rattle.store.specs.declared.Value.{Value}
 use Rattle.store.specs.Value.{isWriteView, wellFormed, valueAt, valueBytes, opened, assigned, emptySlot, slotBytes, slotWidth, valueWidth}
 use Rattle.store.specs.Sheet.{orderOf, tablesOf, openingOf, valueWidthIn, valueGood, sizesAllowed, slotChecked, bodyChecked, sheetChecked, storeSheet, slotsBytes}
+use Rattle.store.proofs.Bytes.{bytes-of}
 use Rattle.store.proofs.Result.{Post, Any, post-at}
 use Rattle.programme.specs.Syntax.{LiteralOf, Literals, LiteralsBody}
 use Rattle.programme.specs.Code.{readValue, exprByte, exprBy, readExpr, sorted, cmdByte, readAssign, readIf, bodyBy, readBody, readBlock}
@@ -108,13 +109,17 @@ not-direct d =
 
 -- slot 1 ends with 41 or with 42, as the adversary chose
 controlled : NoControl 2 tables 0 sheet (sent 1) 1 left → ⊥
+unfolding every _and_
 controlled c =
-    let e : _≡_ {A = ℕ} 41 42 = ap (λ (l : List ℕ). getD l 1 0) (c (sent 0) _ (whole-worked .other) (whole-worked .right-run)) in omega arith
+    let e : _≡_ {A = ℕ} 41 42 =
+    ap (λ (l : List ℕ). getD l 1 0) (c (sent 0) _ (bytes-of (sent 0) refl) (whole-worked .other) (whole-worked .right-run)) in
+    omega arith
 
 pub whole-run-not-safe : WholeRunSafety → ⊥
+unfolding every _and_
 whole-run-not-safe h =
     let x = whole-worked in
     let self : Replacement tables 0 (sent 1) (sent 1) = record { count = refl; each = λ i l. unchanged refl refl } in
     ⊎-elim controlled not-direct
-    (h 0 sheet (sent 1) tables slots (x .principal) (x .opens) (x .slots-spare) (x .blocks-spare)
-    (sent 1) _ self (x .left-run) 1 (x .protected .inside))
+    (h 0 sheet (sent 1) tables slots (x .principal) (x .opens) (x .slots-spare, x .blocks-spare)
+    (sent 1) _ (bytes-of (sent 1) refl) self (x .left-run) 1 (x .protected .inside))

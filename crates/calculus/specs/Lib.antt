@@ -13,6 +13,7 @@ pub mod Vectors
 pub mod Unrelated
 pub mod Endorsed
 pub mod Whole
+pub mod Chosen
 pub mod Descents
 pub mod Faults
 pub mod Promises

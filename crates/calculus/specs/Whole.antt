@@ -5,7 +5,6 @@ use mathlib.Core.Path.{_≡_}
 use mathlib.Core.Bool.{true, false}
 use mathlib.Core.List.{List, [], _∷_, _++_}
 use lib.ListN.{getD}
-use Rattle.lattice.specs.Order.{Label}
 use Rattle.store.specs.Result.{ok}
 use Rattle.store.specs.Value.{emptySlot, slotBytes}
 use Rattle.store.specs.Sheet.{Tables, tablesOf, openingOf, storeSheet}
@@ -14,17 +13,11 @@ use Rattle.calculus.specs.Calculus.{Store}
 use Rattle.calculus.specs.Run.{FinishedRun}
 use Rattle.calculus.specs.Vectors.{int, bool, writes, assign, lit, read, block, sheetOf}
 use Rattle.calculus.specs.Isolation.{Protected, withinReach, Replacement}
-use Rattle.calculus.specs.Deputy.{ProtectedSpare, BareBlocksSpare, NoConfusedDeputy}
+use Rattle.calculus.specs.Deputy.{ProtectedSpare, BareBlocksSpare, Prevents}
 
 -- theorem 5 with endorsed blocks let in, over whole runs
 abbrev pub WholeRunSafety : Type 0
-WholeRunSafety =
-    (adversary : Label) (store p : List ℕ) (w : Tables) (s : Store)
-    → adversary < w .order .n
-    → storeSheet store ≡ ok (record { tables = w; store = s })
-    → ProtectedSpare w adversary s
-    → BareBlocksSpare w adversary p
-    → NoConfusedDeputy 2 w adversary store p
+WholeRunSafety = Prevents 2 (λ w adversary s p. ProtectedSpare w adversary s × BareBlocksSpare w adversary p)
 
 -- The adversary is principal 0, and principal 1 stands above it. Slot 0 is the adversary's own, true; slots 1 and 2 are principal 1's, 7.
 abbrev pub sheet : List ℕ
