@@ -20,6 +20,7 @@ pub mod Milder
 pub mod Ladder
 pub mod OwnRefusals
 pub mod Kept
+pub mod Twins
 pub mod Stepwise
 pub mod Capability
 pub mod Integrity

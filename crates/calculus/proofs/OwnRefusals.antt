@@ -21,7 +21,7 @@ use Rattle.calculus.proofs.Rules.{rules-one}
 use Rattle.calculus.proofs.Refusals.{Refusing, blocks-refuse-by}
 use Rattle.calculus.proofs.Faithful.{faithfulness}
 
--- no step under the rules is refused by n
+-- the rules refuse no step by n
 abbrev Never : ℕ → RuleSet → Type 0
 Never n rules = (w : Tables) (budget : ℕ) (b : Block) → Refusing (λ e. e ≡ n → ⊥) (setting w rules budget b)
 
@@ -29,12 +29,12 @@ never-under : (n : ℕ) (rules rules′ : RuleSet) → rules′ ≡ rules → Ne
 never-under n rules rules′ e h = rw e h
 
 -- so neither is a run
-never-by : (n rule : ℕ) (rules : RuleSet) → (n ≡ 0 → ⊥) → rulesOf rule ≡ ok rules → Never n rules → NeverBy n rule
+never-by : (n rule : ℕ) (rules : RuleSet) → (n ≡ 0 → ⊥) → (17 ≡ n → ⊥) → rulesOf rule ≡ ok rules → Never n rules → NeverBy n rule
 unfolding haltAnswer
-never-by n rule rules some r never store programme budget old g e =
+never-by n rule rules some unspent r never store programme budget old g e =
     let f = faithfulness store programme rule budget old g in
     let q = never-under n rules (g .rules) (rules-one rule rules (g .rules) r (g .ruled)) never in
-    let stops = blocks-refuse-by _ (g .opening .tables) (g .rules) budget (q (g .opening .tables) budget) 0 (g .blocks) _ in
+    let stops = blocks-refuse-by _ (g .opening .tables) (g .rules) budget (q (g .opening .tables) budget) unspent 0 (g .blocks) _ in
     go (ownRun g) refl (λ s h. some (sym e ∙ ap (λ (a : Answer). a .number) (f .ends s h .0)))
     (λ h x. post-refused _ _ _ h stops x (sym (ap (λ (a : Answer). a .number) (f .stops h x .0)) ∙ e))
   where
@@ -51,7 +51,6 @@ no-14 rules p w budget b =
       region = λ i f. absurd (true≢false (rw p at f));
       view = λ v f e. omega arith;
       labels = λ i x y branch f e. omega arith;
-      spent = λ e. omega arith;
     }
 
 -- where write views are not judged
@@ -63,7 +62,6 @@ no-15 rules p w budget b =
       region = λ i f e. omega arith;
       view = λ v f. absurd (true≢false (rw p at f));
       labels = λ i x y branch f e. omega arith;
-      spent = λ e. omega arith;
     }
 
 -- where no labels are judged
@@ -75,17 +73,16 @@ no-16 rules p w budget b =
       region = λ i f e. omega arith;
       view = λ v f e. omega arith;
       labels = λ i x y branch f. absurd (true≢false (sym (or-r (b .header .endorsed) true refl) ∙ rw (p x y branch) at f));
-      spent = λ e. omega arith;
     }
 
 pub own-refusals : OwnRefusals
 unfolding rulesOf judgesRegion judgesViews labelsJudged
 own-refusals =
     record {
-      no-14 = never-by 14 1 capability (λ e. omega arith) refl (no-14 capability refl);
-      no-15-by-0 = never-by 15 0 accessControl (λ e. omega arith) refl (no-15 accessControl refl);
-      no-15-by-2 = never-by 15 2 explicitProvenance (λ e. omega arith) refl (no-15 explicitProvenance refl);
-      no-15-by-3 = never-by 15 3 fullProvenance (λ e. omega arith) refl (no-15 fullProvenance refl);
-      no-16-by-0 = never-by 16 0 accessControl (λ e. omega arith) refl (no-16 accessControl (λ x y branch. refl));
-      no-16-by-1 = never-by 16 1 capability (λ e. omega arith) refl (no-16 capability (λ x y branch. refl));
+      no-14 = never-by 14 1 capability (λ e. omega arith) (λ e. omega arith) refl (no-14 capability refl);
+      no-15-by-0 = never-by 15 0 accessControl (λ e. omega arith) (λ e. omega arith) refl (no-15 accessControl refl);
+      no-15-by-2 = never-by 15 2 explicitProvenance (λ e. omega arith) (λ e. omega arith) refl (no-15 explicitProvenance refl);
+      no-15-by-3 = never-by 15 3 fullProvenance (λ e. omega arith) (λ e. omega arith) refl (no-15 fullProvenance refl);
+      no-16-by-0 = never-by 16 0 accessControl (λ e. omega arith) (λ e. omega arith) refl (no-16 accessControl (λ x y branch. refl));
+      no-16-by-1 = never-by 16 1 capability (λ e. omega arith) (λ e. omega arith) refl (no-16 capability (λ x y branch. refl));
     }

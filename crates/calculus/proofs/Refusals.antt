@@ -16,18 +16,14 @@ use Rattle.calculus.specs.Calculus.{Setting, Store, Labelled, State, Sto
 use Rattle.calculus.specs.Blocks.{Halt, setting, runBlocks}
 use Rattle.calculus.proofs.Steps.{post-choose, post-tried, post-loop}
 
--- Q holds of each number that a test under w can refuse a step by
+-- Q holds of each number that the rules can refuse a step by under w
 pub record Refusing (Q : ℕ → Type 0) (w : Setting) : Type 0 where
   pub kind : Q 13
   pub region : (i : ℕ) → authorised w i ≡ false → Q 14
   pub view : (v : Value) → mayHold w v ≡ false → Q 15
   pub labels : (i : ℕ) (x y branch : Label) → reliable w i (labelsJudged (w .rules) x y branch) ≡ false → Q 16
-  pub spent : Q 17
 
 module _ (Q : ℕ → Type 0) (w : Setting) (q : Refusing Q w) where
-  abbrev Numbered : Stop → Type 0
-  Numbered e = Q (e .number)
-
   admits : (x : Labelled) → Refuses Q (admit w x)
   unfolding admit
   admits x = post-require _ _ _ _ _ (λ _. refuses-ok _ _) (q .view (x .value))
@@ -37,11 +33,11 @@ module _ (Q : ℕ → Type 0) (w : Setting) (q : Refusing Q w) where
   evals s (literal v) = admits _
   evals s (read e) = refuses-bind _ _ _ (evals s e) (λ x. refuses-require _ _ _ _ (q .kind) (admits _))
 
-  judges : (s : Store) (g : Expr) → Refuses Q (judge w s g)
+  pub judges : (s : Store) (g : Expr) → Refuses Q (judge w s g)
   unfolding judge
   judges s g = refuses-bind _ _ _ (evals s g) (λ x. refuses-require _ _ _ _ (q .kind) (refuses-ok _ _))
 
-  assigns : (branch : Label) (s : Store) (t v : Expr) → Refuses Q (assignment w branch s t v)
+  pub assigns : (branch : Label) (s : Store) (t v : Expr) → Refuses Q (assignment w branch s t v)
   unfolding assignment permit
   assigns branch s t v =
       refuses-bind _ _ _ (evals s t) λ x.
@@ -49,8 +45,13 @@ module _ (Q : ℕ → Type 0) (w : Setting) (q : Refusing Q w) where
       refuses-bind _ _ _ (evals s v) λ y.
       post-require _ _ _ _ _ (λ _. post-require _ _ _ _ _ (λ _. refuses-ok _ _) (q .labels _ _ _ _)) (q .region _))
 
+-- and of the number that a spent budget refuses it by
+module _ (Q : ℕ → Type 0) (w : Setting) (q : Refusing Q w) (spent : Q 17) where
+  abbrev Numbered : Stop → Type 0
+  Numbered e = Q (e .number)
+
   steps : {A : Type 0} (at : ℕ) (s : State) (r : Result ℕ A) → Refuses Q r → Refuses Numbered (step w at s r)
-  steps at s r h = post-tried w at s _ _ _ h (q .spent)
+  steps at s r h = post-tried w at s _ _ _ h spent
 
   mutual
     unfolding exec execBody execs
@@ -60,25 +61,25 @@ module _ (Q : ℕ → Type 0) (w : Setting) (q : Refusing Q w) where
 
     body-refuses : (b : Body) (at : ℕ) (branch : Label) (s : State) → Refuses Numbered (execBody w b at branch s)
     body-refuses skip at branch s = refuses-ok _ _
-    body-refuses (assign t v) at branch s = refuses-bind _ _ _ (steps at s _ (assigns branch (s .store) t v)) (λ x. refuses-ok _ _)
+    body-refuses (assign t v) at branch s = refuses-bind _ _ _ (steps at s _ (assigns Q w q branch (s .store) t v)) (λ x. refuses-ok _ _)
     body-refuses (seq cs) at branch s = all-refuse cs branch s
     body-refuses (if g c d) at branch s =
-        refuses-bind _ _ _ (steps at s _ (judges (s .store) g)) λ j.
+        refuses-bind _ _ _ (steps at s _ (judges Q w q (s .store) g)) λ j.
         post-choose _ _ _ _ _ _ (λ _. exec-refuses c _ (counted s)) (λ _. exec-refuses d _ (counted s))
     body-refuses (while g c) at branch s =
-        post-loop Any Numbered (λ _ _. Unit {0}) _ _ at (λ _ _. q .spent) (λ t _. steps at t _ (judges (t .store) g)) (λ _ _ _ _. tt)
+        post-loop Any Numbered (λ _ _. Unit {0}) _ _ at (λ _ _. spent) (λ t _. steps at t _ (judges Q w q (t .store) g)) (λ _ _ _ _. tt)
         (λ _ j _ t _. exec-refuses c _ t) (w .budget - s .steps) s tt
 
     all-refuse : (cs : Cmds) (branch : Label) (s : State) → Refuses Numbered (execs w cs branch s)
     all-refuse nil branch s = refuses-ok _ _
     all-refuse (cons c cs) branch s = refuses-bind _ _ _ (exec-refuses c branch s) (λ t. all-refuse cs branch t)
 
-module _ (Q : ℕ → Type 0) (w : Tables) (rules : RuleSet) (budget : ℕ) (q : (b : Block) → Refusing Q (setting w rules budget b)) where
+module _ (Q : ℕ → Type 0) (w : Tables) (rules : RuleSet) (budget : ℕ) (q : (b : Block) → Refusing Q (setting w rules budget b)) (spent : Q 17) where
   pub blocks-refuse-by : (i : ℕ) (bs : List Block) (s : State) → Refuses (λ (h : Halt). Q (h .stop .number)) (runBlocks w rules budget i bs s)
   unfolding runBlocks
   blocks-refuse-by i [] s = refuses-ok _ _
   blocks-refuse-by i (b ∷ bs) s =
-      refuses-bind _ _ _ (post-refused-as _ _ _ _ (exec-refuses Q (setting w rules budget b) (q b) (b .command) _ s)) λ t.
+      refuses-bind _ _ _ (post-refused-as _ _ _ _ (exec-refuses Q (setting w rules budget b) (q b) spent (b .command) _ s)) λ t.
       blocks-refuse-by (i + 1) bs t
 
 -- every refusal of a run has a number from 1 on
@@ -91,5 +92,4 @@ blocks-refuse w rules budget i bs s =
       region = λ _ _. omega arith;
       view = λ _ _. omega arith;
       labels = λ _ _ _ _ _. omega arith;
-      spent = omega arith;
-    }) i bs s
+    }) (omega arith) i bs s

@@ -1,187 +1,185 @@
--- `stateAfter` goes through a run step by step: with one more step allowed, a run goes on by that step at most. Assumes nothing.
-use Prim.Native.Nat.{ℕ, zero, suc, _+_, _≤_, _<_}
-use mathlib.Core.Path.{_≡_, refl}
-use mathlib.Core.Bool.{Bool, true, false}
+-- A run goes step by step: with one more step allowed it goes on by the step that is next. Assumes nothing.
+use Prim.Native.Nat.{ℕ, zero, suc, _+_, _-_, _≤_, min}
+use mathlib.Core.Path.{_≡_, refl, sym, ap, _∙_}
 use mathlib.Core.List.{List, [], _∷_}
 use native.Mathlib.Omega.{arith}
-use lib.Dec.{eqb}
+use lib.ListN.{take}
 use lib.Seq.{take-length}
-use borrow.Author.Tests.{eq-eqb, eqb-true, eqb-false, ne-eqb}
-use Rattle.lattice.specs.Order.{Label, top}
-use Rattle.store.specs.Result.{Result, ok, refuse, _>>=_, require, refusedAs}
+use Rattle.lattice.specs.Order.{top}
+use Rattle.store.specs.Result.{Result, ok, refuse, _>>=_, refusedAs}
 use Rattle.store.specs.Sheet.{Tables}
-use Rattle.store.proofs.Result.{Post, Any, post-ok, post-refuse, post-all, post-map, post-refused-as, post-bind, bind-with}
-use Rattle.programme.specs.Syntax.{Expr, literal, read, Cmd, cmd, Body, skip, assign, seq, if, while, Cmds, nil, cons}
-use Rattle.programme.specs.Sheet.{Block}
+use Rattle.store.proofs.Result.{Post, Any, post-ok, post-all, post-map, post-at, post-refused-as, post-bind}
+use Rattle.programme.specs.Sheet.{Block, blockAt}
+use Rattle.programme.proofs.Placed.{IsBlock, Placed, none, more, programme-placed}
 use Rattle.calculus.specs.Rules.{RuleSet}
-use Rattle.calculus.specs.Calculus.{Setting, Store, Judged, State, Stop, inRegion, admit, fetch, eval, judge, authorised, reliable, permit, assignment, counted, performed, stopAt, step, choose, exec, execBody, execs}
+use Rattle.calculus.specs.Calculus.{Setting, State, Stop, counted, performed, stopAt, exec}
 use Rattle.calculus.specs.Blocks.{Halt, haltIn, setting, runBlocks, start}
-use Rattle.calculus.specs.Kept.{reached, stateWithin, Next, stays, judged, made, StepByStep}
-use Rattle.calculus.proofs.Steps.{Counted, post-tried, exec-counts}
-use Rattle.calculus.proofs.Blocks.{stopped, halted, run-counts}
-use Rattle.calculus.proofs.While.{while-law}
+use Rattle.calculus.specs.Faithful.{Good}
+use Rattle.calculus.specs.Kept.{reached, stateWithin, runAfter, stateAfter, Task, judging, assigning, outcome, stepAt, Comes, Spent, Next, ended, refused, taken, forbidden, StepByStep}
+use Rattle.calculus.proofs.Steps.{Counted, exec-counts}
+use Rattle.calculus.proofs.Blocks.{run-counts}
+use Rattle.calculus.proofs.Twins.{Kind, After, goes-on, forbids, Beside, agree, apart, Twin, twin-ok, twin-bind, stops, Before, exec-twin}
 use Rattle.calculus.proofs.Kept.{at-reached}
 
--- Two runs side by side, where k steps are allowed to the first and m to the second; `place` says where a refusal was met
+-- The blocks of a sheet
 
-module _ {E : Type 0} (place : E → State) (m : ℕ) where
-  -- it ends at t, or is stopped there
-  abbrev Still : State → Result E State → Type 0
-  Still t r = Post (λ v. v ≡ t) (λ e. place e ≡ t) r
+abbrev halts : Kind Halt
+halts =
+    record {
+      met = λ h. h .stop .state;
+      number = λ h. h .stop .number;
+      by = λ n h. haltIn (h .block) (stopAt (h .stop .offset) (h .stop .state) n);
+    }
 
-  -- it ends one step on from u, with m steps done, or is stopped at most one step on
-  abbrev On : State → Result E State → Type 0
-  On u r = Post (λ t. Next u t × (t .steps ≡ m)) (λ e. Next u (place e)) r
-
-  on-still : (u t : State) (r : Result E State) → Next u t → t .steps ≡ m → Still t r → On u r
-  on-still u t r n e h = post-map _ _ _ _ r h (λ v q. rw q (n, e)) (λ x q. rw q n)
-
-  -- the two answer alike, or the first is stopped, and the second goes one step on from there
-  data Beside (r r′ : Result E State) : Type 0 where
-    agree : r ≡ r′ → Beside r r′
-    apart : (e : E) → r ≡ refuse e → On (place e) r′ → Beside r r′
-
-  -- f of the first run and f′ of the second: side by side while k steps are not passed; with all m steps done f′ makes no more
-  record Twin (k from : ℕ) (f f′ : State → Result E State) : Type 0 where
-    near : m ≡ k + 1 → (s : State) → Counted k from s → Beside (f s) (f′ s)
-    far : (t : State) → t .steps ≡ m → Still t (f′ t)
-
-module _ {E : Type 0} {place : E → State} {m k from : ℕ} where
-  twin-ok : Twin place m k from ok ok
-  twin-ok = record { near = λ _ s _. agree refl; far = λ t _. post-ok _ _ _ refl }
-
-  twin-choose : (b : Bool) {f g f′ g′ : State → Result E State}
-      → Twin place m k from f f′ → Twin place m k from g g′ → Twin place m k from (choose b f g) (choose b f′ g′)
-  unfolding choose
-  twin-choose true p q = p
-  twin-choose false p q = q
-
-  -- one after the other: where the first run is stopped, the second has made its last step, and stays
-  twin-bind : (Q : E → Type 0) {f f′ g g′ : State → Result E State} → ((s : State) → Counted k from s → Post (Counted k from) Q (f s))
-      → Twin place m k from f f′ → Twin place m k from g g′ → Twin place m k from (λ s. f s >>= g) (λ s. f′ s >>= g′)
-  unfolding _>>=_
-  twin-bind Q {f} {f′} {g} {g′} counts p q =
-      record {
-        near = λ e s h. go e _ (f′ s) (counts s h) (p .near e s h);
-        far = λ t e. post-bind (λ v. v ≡ t) _ _ (f′ t) g′ (p .far t e) (λ v d. rw d (q .far t e));
-      }
-    where
-      go : m ≡ k + 1 → (r r′ : Result E State) → Post (Counted k from) Q r → Beside place m r r′ → Beside place m (r >>= g) (r′ >>= g′)
-      go e r r′ c (agree d) = rw (← d) (bind-with (Beside place m) _ Q r g g′ c (q .near e) (λ _. agree refl))
-      go e r r′ c (apart x d on) =
-          apart x (rw d) (post-bind _ _ _ r′ g′ on (λ t n. on-still place m _ t _ (n .0) (n .1) (q .far t (n .1))))
-
-module _ (w : Setting) (m : ℕ) where
-  abbrev w′ : Setting
-  w′ = record { tables = w .tables; rules = w .rules; header = w .header; budget = m }
-
-  -- a part of the two runs of a block
-  abbrev Both : ℕ → (State → Result Stop State) → (State → Result Stop State) → Type 0
-  Both from f f′ = Twin stopped m (w .budget) from f f′
-
-  -- no value depends on the budget
-  eval-same : (s : Store) (e : Expr) → eval w s e ≡ eval w′ s e
-  unfolding eval fetch admit inRegion
-  eval-same s (literal v) = refl
-  eval-same s (read e) = rw (eval-same s e)
-
-  -- a step that asks the same of both runs and leads to `to`: both go on from there, or it is the second run's last
-  twin-step : {A : Type 0} (from at : ℕ) (r r′ : State → Result ℕ A) (f f′ : A → State → Result Stop State) (to : A → State → State)
-      → ((s : State) → r s ≡ r′ s) → ((a : A) (s : State) → Next s (to a s)) → ((a : A) (s : State) → to a s .steps ≡ s .steps + 1)
-      → ((a : A) → Both (from + 1) (f a) (f′ a))
-      → Both from (λ s. step w at s (r s) >>= λ a. f a (to a s)) (λ s. step w′ at s (r′ s) >>= λ a. f′ a (to a s))
-  unfolding step require refusedAs _>>=_
-  twin-step from at r r′ f f′ to same next adds p =
-      record { near = λ d s h. rw (same s) (go d s h _ refl); far = λ t e. rw (eq-eqb (t .steps) m e) (post-refuse _ _ _ refl) }
-    where
-      go : m ≡ w .budget + 1 → (s : State) → Counted (w .budget) from s → (b : Bool) → eqb (s .steps) (w .budget) ≡ b
-          → Beside stopped m (step w at s (r′ s) >>= λ a. f a (to a s)) (step w′ at s (r′ s) >>= λ a. f′ a (to a s))
-      go d s h true e =
-          apart (stopAt at s 17) (rw e)
-          (post-bind Any _ _ _ _ (post-tried w′ at s _ _ (r′ s) (post-all _ _ _ (λ _. tt) (λ _. stays)) stays) λ a _.
-          let l : to a s .steps ≡ m = omega (arith, adds a s, eqb-true (s .steps) (w .budget) e) in
-          on-still stopped m s (to a s) _ (next a s) l (p a .far (to a s) l))
-      go d s h false e =
-          let l : s .steps < w .budget = omega (arith, h .kept, eqb-false (s .steps) (w .budget) e) in
-          rw (e, ne-eqb (s .steps) m (λ q. omega arith))
-          (bind-with (Beside stopped m) Any Any (refusedAs _ (r′ s)) _ _ (post-all _ _ _ (λ _. tt) (λ _. tt))
-          (λ a _. p a .near d (to a s) (record { grown = omega (arith, adds a s, h .grown); kept = omega (arith, adds a s) })) (λ _. agree refl))
-
-  -- a guard, and then what follows from its verdict
-  twin-judged : (from at : ℕ) (g : Expr) (f f′ : Judged → State → Result Stop State) → ((j : Judged) → Both (from + 1) (f j) (f′ j))
-      → Both from (λ s. step w at s (judge w (s .store) g) >>= λ j. f j (counted s))
-      (λ s. step w′ at s (judge w′ (s .store) g) >>= λ j. f′ j (counted s))
-  unfolding judge counted
-  twin-judged from at g f f′ p =
-      twin-step from at _ _ f f′ (λ _ s. counted s) (λ s. rw (eval-same (s .store) g)) (λ _ s. judged) (λ _ s. refl) p
-
-  module _ (g : Expr) (c : Cmd) (body : (from : ℕ) (branch : Label) → Both from (exec w c branch) (exec w′ c branch))
-      (at : ℕ) (branch : Label) where
-    while-far : (t : State) → t .steps ≡ m → Still stopped m t (exec w′ (cmd at 0 (while g c)) branch t)
-    unfolding step require refusedAs _>>=_ Post
-    while-far t e = rw (while-law w′ g c at branch 0 t (omega arith), eq-eqb (t .steps) m e)
-
-    -- n bounds the rounds that are left
-    while-twin : (n from : ℕ) → w .budget < n + from → Both from (exec w (cmd at 0 (while g c)) branch) (exec w′ (cmd at 0 (while g c)) branch)
-    while-twin zero from l = record { near = λ e s h. absurd (omega (arith, h .grown, h .kept)); far = while-far }
-    while-twin (suc n) from l =
-        record {
-          near = λ e s h. rw (while-law w g c at branch 0 s (h .kept), while-law w′ g c at branch 0 s (omega (arith, h .kept)))
-              (twin-judged from at g _ _ (λ j. twin-choose (j .passes)
-              (twin-bind _ (exec-counts w (from + 1) c _) (body (from + 1) _) (while-twin n (from + 1) (omega arith))) twin-ok) .near e s h);
-          far = while-far;
-        }
-
-  mutual
-    unfolding exec execBody execs performed counted assignment permit authorised reliable inRegion
-
-    exec-twin : (c : Cmd) (from : ℕ) (branch : Label) → Both from (exec w c branch) (exec w′ c branch)
-    exec-twin (cmd at end b) from branch = body-twin b from at branch
-
-    body-twin : (b : Body) (from at : ℕ) (branch : Label) → Both from (execBody w b at branch) (execBody w′ b at branch)
-    body-twin skip from at branch = twin-ok
-    body-twin (assign x v) from at branch =
-        twin-step from at _ _ _ _ performed (λ s. rw (eval-same (s .store) x, eval-same (s .store) v)) (λ y s. made y) (λ _ _. refl) (λ _. twin-ok)
-    body-twin (seq cs) from at branch = execs-twin cs from branch
-    body-twin (if g c d) from at branch =
-        twin-judged from at g _ _ (λ j. twin-choose (j .passes) (exec-twin c (from + 1) _) (exec-twin d (from + 1) _))
-    body-twin (while g c) from at branch = while-twin g c (λ n l. exec-twin c n l) at branch (w .budget + 1) from (omega arith)
-
-    execs-twin : (cs : Cmds) (from : ℕ) (branch : Label) → Both from (execs w cs branch) (execs w′ cs branch)
-    execs-twin nil from branch = twin-ok
-    execs-twin (cons c cs) from branch = twin-bind _ (exec-counts w from c branch) (exec-twin c from branch) (execs-twin cs from branch)
-
-beside-halted : (m i : ℕ) (r r′ : Result Stop State) → Beside stopped m r r′ → Beside halted m (refusedAs (haltIn i) r) (refusedAs (haltIn i) r′)
+twin-halted : {m k from : ℕ} (i : ℕ) (D : State → Stop → Result ℕ State → Type 0) (f f′ : State → Result Stop State)
+    → Twin stops m k from D f f′
+    → Twin halts m k from (λ s h x. (h .block ≡ i) × D s (h .stop) x) (λ s. refusedAs (haltIn i) (f s)) (λ s. refusedAs (haltIn i) (f′ s))
 unfolding refusedAs
-beside-halted m i r r′ (agree e) = agree (rw e)
-beside-halted m i r r′ (apart e q on) = apart (haltIn i e) (rw q) (post-refused-as _ _ _ _ on)
+twin-halted {m} {k} i D f f′ p =
+    record { near = λ e s h. go s (f s) (f′ s) (p .near e s h); far = λ t e. post-refused-as _ _ _ _ (p .far t e) }
+  where
+    after : (e : Stop) (r : Result Stop State) (x : Result ℕ State)
+        → After stops m e r x → After halts m (haltIn i e) (refusedAs (haltIn i) r) x
+    after e r (ok t) (goes-on l h) = goes-on l (post-refused-as _ _ _ _ h)
+    after e r (refuse n) (forbids d) = forbids {n = n} (rw d)
 
-run-twin : (k m : ℕ) (w : Tables) (rules : RuleSet) (i : ℕ) (bs : List Block)
-    → Twin halted m k 0 (runBlocks w rules k i bs) (runBlocks w rules m i bs)
-unfolding runBlocks
-run-twin k m w rules i [] = twin-ok
-run-twin k m w rules i (b ∷ bs) =
-    let p = exec-twin (setting w rules k b) m (b .command) 0 (top (w .order)) in
-    twin-bind (λ h. Counted k 0 (halted h))
-    (λ s h. post-refused-as _ _ _ _ (exec-counts (setting w rules k b) 0 (b .command) (top (w .order)) s h))
-    (record { near = λ e s h. beside-halted m i _ _ (p .near e s h); far = λ t e. post-refused-as _ _ _ _ (p .far t e) })
-    (run-twin k m w rules (i + 1) bs)
+    go : (s : State) (r r′ : Result Stop State) → Beside stops m k (D s) r r′
+        → Beside halts m k (λ h x. (h .block ≡ i) × D s (h .stop) x) (refusedAs (haltIn i) r) (refusedAs (haltIn i) r′)
+    go s r r′ (agree d o) = agree (rw d) (post-refused-as _ _ _ _ o)
+    go s r r′ (apart e x d b a) = apart (haltIn i e) x (rw d) (refl, b) (after e r′ x a)
 
-next-reached : (m : ℕ) (r r′ : Result Halt State) → Beside halted m r r′ → Next (reached r) (reached r′)
-unfolding reached
-next-reached m r r′ (agree e) = rw e stays
-next-reached m r r′ (apart e q on) = rw q (at-reached (Next (halted e)) r′ (post-map _ _ _ _ r′ on (λ t n. n .0) (λ _ n. n)))
+module _ (w : Tables) (rules : RuleSet) (p : List ℕ) (k : ℕ) where
+  abbrev ρ : Block → Setting
+  ρ b = setting w rules k b
+
+  -- a run of the blocks from the i-th on, begun in s, is spent at h, in a block that it has entered, before a step that comes to x
+  record Due (i : ℕ) (bs : List Block) (s : State) (h : Halt) (x : Result ℕ State) : Type 0 where
+    passed : ℕ
+    block : Block
+    entry : State
+    number : h .block ≡ i + passed
+    is : IsBlock (w .slots) p (h .block) block
+    entered : runBlocks w rules k i (take passed bs) s ≡ ok entry
+    before : Before (ρ block) (Comes (ρ block) (block .command) (top (w .order))) entry (h .stop) x
+
+  due-first : (i : ℕ) (b : Block) (bs : List Block) (s : State) (h : Halt) (x : Result ℕ State) → IsBlock (w .slots) p i b → h .block ≡ i
+      → Before (ρ b) (Comes (ρ b) (b .command) (top (w .order))) s (h .stop) x → Due i (b ∷ bs) s h x
+  unfolding runBlocks
+  due-first i b bs s h x is e q =
+      record { passed = 0; block = b; entry = s; number = omega arith; is = rw e is; entered = refl; before = q }
+
+  due-later : (i : ℕ) (b : Block) (bs : List Block) (s t : State) (h : Halt) (x : Result ℕ State)
+      → refusedAs (haltIn i) (exec (ρ b) (b .command) (top (w .order)) s) ≡ ok t → Due (i + 1) bs t h x → Due i (b ∷ bs) s h x
+  unfolding runBlocks _>>=_
+  due-later i b bs s t h x e d =
+      record {
+        passed = suc (d .passed);
+        block = d .block;
+        entry = d .entry;
+        number = omega (arith, d .number);
+        is = d .is;
+        entered = rw e (d .entered);
+        before = d .before;
+      }
+
+  run-twin : (m i : ℕ) (bs : List Block) → Placed (IsBlock (w .slots) p) i bs
+      → Twin halts m k 0 (Due i bs) (runBlocks w rules k i bs) (runBlocks w rules m i bs)
+  unfolding runBlocks
+  run-twin m i [] none = twin-ok
+  run-twin m i (b ∷ bs) (more is rest) =
+      twin-bind (λ h. Counted k 0 (h .stop .state)) _ (Due (i + 1) bs) (Due i (b ∷ bs))
+      (λ s h x q. due-first i b bs s h x is (q .0) (q .1)) (λ s t h x. due-later i b bs s t h x)
+      (λ s h. post-refused-as _ _ _ _ (exec-counts (ρ b) 0 (b .command) (top (w .order)) s h))
+      (twin-halted i _ _ _ (exec-twin (ρ b) m (b .command) 0 (top (w .order)))) (run-twin m (i + 1) bs rest)
+
+-- a step that is made is counted
+outcome-adds : (w : Setting) (s : State) (t : Task) → Post (λ u. u .steps ≡ s .steps + 1) Any (outcome w s t)
+unfolding outcome performed counted
+outcome-adds w s (judging g) = post-bind Any _ _ _ _ (post-all _ _ _ (λ _. tt) (λ _. tt)) (λ j _. post-ok _ _ _ refl)
+outcome-adds w s (assigning branch x v) = post-bind Any _ _ _ _ (post-all _ _ _ (λ _. tt) (λ _. tt)) (λ y _. post-ok _ _ _ refl)
+
+module _ {store programme : List ℕ} {rule budget room : ℕ} (g : Good store programme rule budget room) where
+  abbrev w : Tables
+  w = g .opening .tables
+
+  abbrev opened : State
+  opened = start (g .opening .store)
+
+  whole : (k : ℕ) → runAfter g k ≡ runBlocks w (g .rules) k 0 (g .blocks) opened
+  whole k = rw (take-length (g .blocks))
+
+  abbrev DueAt : ℕ → State → Halt → Result ℕ State → Type 0
+  DueAt k = Due w (g .rules) programme k 0 (g .blocks)
+
+  runs : (k m : ℕ) → Twin halts m k 0 (DueAt k) (runBlocks w (g .rules) k 0 (g .blocks)) (runBlocks w (g .rules) m 0 (g .blocks))
+  runs k m = run-twin w (g .rules) programme k m 0 (g .blocks) (post-at _ _ _ _ (programme-placed _ _ programme) (g .taken))
+
+  spent-at : (k : ℕ) (h : Halt) (x : Result ℕ State) → runAfter g k ≡ refuse h → DueAt k opened h x → Spent g k
+  unfolding blockAt refusedAs _>>=_
+  spent-at k h x e d =
+      let n : h .block ≡ d .passed = omega (arith, d .number) in
+      record {
+        number = h .block;
+        block = d .block;
+        entry = d .entry;
+        place = stepAt (h .stop .offset) (h .stop .state) (d .before .task);
+        listed = rw (d .is .code, ← d .is .header);
+        entered = rw n (d .entered);
+        comes = d .before .comes;
+        done = d .before .done;
+        stops = e ∙ rw (← d .before .spent);
+      }
+
+  next-run : (k : ℕ) (r r′ : Result Halt State) → runAfter g k ≡ r → Beside halts (k + 1) k (DueAt k opened) r r′ → Next g k r′
+  unfolding Post spent-at
+  next-run k (ok s) r′ e (agree d o) = rw (← d) (ended e)
+  next-run k (refuse h) r′ e (agree d o) = rw (← d) (refused e (o .0) (o .1))
+  next-run k r r′ e (apart h x d q a) = after x q a
+    where
+      after : (x : Result ℕ State) → DueAt k opened h x → After halts (k + 1) h r′ x → Next g k r′
+      after (ok t) q (goes-on l still) =
+          taken (spent-at k h (ok t) (e ∙ d) q)
+          (q .before .comes-to ∙ ap ok (sym (at-reached (λ u. u ≡ t) r′ still)))
+      after (refuse n) q (forbids y) = rw y (forbidden (spent-at k h (refuse n) (e ∙ d) q) (q .before .comes-to))
+
+  kept : (k : ℕ) → stateAfter g k .steps ≤ k
+  unfolding stateWithin start
+  kept k =
+      rw (take-length (g .blocks)) (at-reached (λ t. t .steps ≤ k) _ (post-map _ _ _ _ _
+      (run-counts w (g .rules) k 0 0 (g .blocks) opened (record { grown = omega arith; kept = omega arith })) (λ t c. c .kept) (λ h c. c .kept)))
+
+  at-state : (k : ℕ) (r : Result Halt State) → runAfter g k ≡ r → stateAfter g k .steps ≡ reached r .steps
+  unfolding stateWithin
+  at-state k r e = rw e
+
+  one-step : (k : ℕ) (r : Result Halt State) → Next g k r → stateAfter g k .steps ≡ min k (reached r .steps)
+  unfolding reached
+  one-step k r (ended {s} e) = omega (arith, kept k, at-state k (ok s) e)
+  one-step k r (refused {h} e n m) = omega (arith, kept k, at-state k (refuse h) e)
+  one-step k r (taken p e) =
+      let adds = outcome-adds (setting w (g .rules) k (p .block)) (p .place .state) (p .place .task) in
+      omega (arith, at-state k _ (p .stops), p .done, post-at _ _ _ _ adds e)
+  one-step k r (forbidden {n} p e) = omega (arith, kept k, at-state k _ (p .stops))
+
+  goes : (k : ℕ) → Next g k (runAfter g (k + 1))
+  unfolding start
+  goes k =
+      rw (whole (k + 1)) (next-run k _ _ (whole k) (runs k (k + 1) .near refl opened (record { grown = omega arith; kept = omega arith })))
+
+  one-more : (k : ℕ) → stateAfter g k .steps ≡ min k (stateAfter g (k + 1) .steps)
+  unfolding stateWithin
+  one-more k = one-step k (runAfter g (k + 1)) (goes k)
+
+  n-more : (n k k′ : ℕ) → k′ ≡ n + k → stateAfter g k .steps ≡ min k (stateAfter g k′ .steps)
+  n-more zero k k′ e = let d : k′ ≡ k = omega arith in rw d (omega (arith, kept k))
+  n-more (suc n) k k′ e = omega (arith, one-more k, n-more n (k + 1) k′ (omega arith))
 
 pub step-by-step : StepByStep
 unfolding stateWithin start
 step-by-step store programme rule budget room g =
-    let w = g .opening .tables in
-    let s = start (g .opening .store) in
     record {
-      opens = rw (take-length (g .blocks)) (at-reached (λ t. t ≡ s) _ (run-twin 0 0 w (g .rules) 0 (g .blocks) .far s refl));
-      goes = λ k. rw (take-length (g .blocks)) (next-reached (k + 1) _ _
-          (run-twin k (k + 1) w (g .rules) 0 (g .blocks) .near refl s (record { grown = omega arith; kept = omega arith })));
-      counts = λ k. rw (take-length (g .blocks)) (at-reached (λ t. t .steps ≤ k) _ (post-map _ _ _ _ _
-          (run-counts w (g .rules) k 0 0 (g .blocks) s (record { grown = omega arith; kept = omega arith })) (λ t c. c .kept) (λ h c. c .kept)));
-      ends = rw (take-length (g .blocks));
+      opens = rw (take-length (g .blocks)) (at-reached (λ t. t ≡ opened g) _ (runs g 0 0 .far (opened g) refl));
+      goes = goes g;
+      counts = λ k k′ l. n-more g (k′ - k) k k′ (omega arith);
+      ends = whole g budget;
     }

@@ -1,21 +1,21 @@
 -- What holds of the slots at every step of a run: document 02, N2, of rule 1; source 003, theorem 2, of every rule. Assumes nothing.
-use Prim.Native.Nat.{ℕ, _+_, _*_, _≤_, _<_}
+use Prim.Native.Nat.{ℕ, _+_, _*_, _≤_, _<_, min}
 use mathlib.Core.Path.{_≡_}
 use mathlib.Core.Bool.{true, false}
 use mathlib.Core.List.{List}
 use lib.ListN.{getD, length, take}
 use Rattle.lattice.specs.Tests.{some}
-use Rattle.lattice.specs.Order.{Label, below}
-use Rattle.store.specs.Result.{Result, ok, refuse}
+use Rattle.lattice.specs.Order.{Label, below, meet, top}
+use Rattle.store.specs.Result.{Result, ok, refuse, _>>=_}
 use Rattle.store.specs.Bytes.{part}
 use Rattle.store.specs.declared.Value.{Value}
 use Rattle.store.specs.Value.{isWriteView, viewed, slotWidth, slotBytes, emptySlot}
 use Rattle.store.specs.Sheet.{Tables, ownerOf}
-use Rattle.programme.specs.Syntax.{Cmd, Literals}
+use Rattle.programme.specs.Syntax.{Expr, Cmd, cmd, assign, seq, if, while, Cmds, cons, Literals}
 use Rattle.programme.specs.Code.{readBlock}
-use Rattle.programme.specs.Sheet.{kOf, headerAt, codeOf}
-use Rattle.calculus.specs.Calculus.{Store, State, Write, contents, counted, performed}
-use Rattle.calculus.specs.Blocks.{Halt, runBlocks, start}
+use Rattle.programme.specs.Sheet.{Block, kOf, headerAt, codeOf, blockAt}
+use Rattle.calculus.specs.Calculus.{Setting, Store, Judged, State, contents, judge, assignment, counted, performed, stopAt, exec}
+use Rattle.calculus.specs.Blocks.{Halt, haltIn, setting, runBlocks, start}
 use Rattle.calculus.specs.Run.{answer, output}
 use Rattle.calculus.specs.Faithful.{Good, ownRun}
 use Rattle.calculus.specs.Isolation.{Protected, withinReach, StoresAgree}
@@ -28,30 +28,102 @@ reached (ok s) = s
 reached (refuse h) = h .stop .state
 
 module _ {store programme : List ℕ} {rule budget room : ℕ} (g : Good store programme rule budget room) where
-  -- the state after k steps of the first j blocks: where the run is that k steps are allowed; a run that ends or is stopped before k
-  -- steps stays there
-  unfoldable pub stateWithin : ℕ → ℕ → State
-  stateWithin k j = reached (runBlocks (g .opening .tables) (g .rules) k 0 (take j (g .blocks)) (start (g .opening .store)))
+  -- the run of the first j blocks that k steps are allowed
+  abbrev pub runWithin : ℕ → ℕ → Result Halt State
+  runWithin k j = runBlocks (g .opening .tables) (g .rules) k 0 (take j (g .blocks)) (start (g .opening .store))
 
-  -- the state, and the held store, after k steps of the whole run
+  -- the state after k steps of the first j blocks: where that run is; one that ends or is stopped before k steps stays there
+  unfoldable pub stateWithin : ℕ → ℕ → State
+  stateWithin k j = reached (runWithin k j)
+
+  -- the run that k steps are allowed, and the state and the held store after k steps, of all blocks
+  abbrev pub runAfter : ℕ → Result Halt State
+  runAfter k = runWithin k (length (g .blocks))
+
   abbrev pub stateAfter : ℕ → State
   stateAfter k = stateWithin k (length (g .blocks))
 
   abbrev pub storeAfter : ℕ → Store
   storeAfter k = stateAfter k .store
 
--- at most one step further: "A step is one guard judged or one assignment made"
-pub data Next (s : State) : State → Type 0 where
-  stays : Next s s
-  judged : Next s (counted s)
-  made : (x : Write) → Next s (performed x s)
+-- "A step is one guard judged or one assignment made; nothing else counts." An assignment is made under a branch label.
+pub data Task : Type 0 where
+  judging : Expr → Task
+  assigning : Label → Expr → Expr → Task
 
--- `stateAfter` goes through the run step by step, from the opening store on
+-- what a step comes to in a state: the state after it, or the number that forbids it
+unfoldable pub outcome : Setting → State → Task → Result ℕ State
+outcome w s (judging g) = judge w (s .store) g >>= λ j. ok (counted s)
+outcome w s (assigning branch target value) = assignment w branch (s .store) target value >>= λ x. ok (performed x s)
+
+-- a step that is next: the offset of its command, the state that it meets, what it is to do
+pub record Place : Type 0 where
+  pub offset : ℕ
+  pub state : State
+  pub task : Task
+
+abbrev pub stepAt : ℕ → State → Task → Place
+stepAt at s t = record { offset = at; state = s; task = t }
+
+-- A command, begun in a state under a branch label, comes to a step: its own, or one of a command inside it, when what stands before that
+-- has run to its end
+module _ (w : Setting) where
+  -- "Inside an if-part or a while body it is the meet of the outer one and the guard's label; after the part, or after each round before
+  -- judging again, the outer one is back."
+  abbrev pub inside : Label → Judged → Label
+  inside branch j = meet (w .tables .order) branch (j .label)
+
+  pub data Comes : Cmd → Label → State → Place → Type 0 where
+    at-assignment : {at end : ℕ} {x v : Expr} {l : Label} {s : State} → Comes (cmd at end (assign x v)) l s (stepAt at s (assigning l x v))
+    at-if : {at end : ℕ} {g : Expr} {c d : Cmd} {l : Label} {s : State} → Comes (cmd at end (if g c d)) l s (stepAt at s (judging g))
+    at-while : {at end : ℕ} {g : Expr} {c : Cmd} {l : Label} {s : State} → Comes (cmd at end (while g c)) l s (stepAt at s (judging g))
+    in-first : {at end : ℕ} {c : Cmd} {cs : Cmds} {l : Label} {s : State} {p : Place}
+        → Comes c l s p → Comes (cmd at end (seq (cons c cs))) l s p
+    in-rest : {at end : ℕ} {c : Cmd} {cs : Cmds} {l : Label} {s t : State} {p : Place}
+        → exec w c l s ≡ ok t → Comes (cmd at end (seq cs)) l t p → Comes (cmd at end (seq (cons c cs))) l s p
+    in-then : {at end : ℕ} {g : Expr} {c d : Cmd} {l : Label} {s : State} {p : Place} {j : Judged}
+        → judge w (s .store) g ≡ ok j → j .passes ≡ true → Comes c (inside l j) (counted s) p → Comes (cmd at end (if g c d)) l s p
+    in-else : {at end : ℕ} {g : Expr} {c d : Cmd} {l : Label} {s : State} {p : Place} {j : Judged}
+        → judge w (s .store) g ≡ ok j → j .passes ≡ false → Comes d (inside l j) (counted s) p → Comes (cmd at end (if g c d)) l s p
+    in-body : {at end : ℕ} {g : Expr} {c : Cmd} {l : Label} {s : State} {p : Place} {j : Judged}
+        → judge w (s .store) g ≡ ok j → j .passes ≡ true → Comes c (inside l j) (counted s) p → Comes (cmd at end (while g c)) l s p
+    in-later-round : {at end : ℕ} {g : Expr} {c : Cmd} {l : Label} {s t : State} {p : Place} {j : Judged}
+        → judge w (s .store) g ≡ ok j → j .passes ≡ true → exec w c (inside l j) (counted s) ≡ ok t
+        → Comes (cmd at end (while g c)) l t p → Comes (cmd at end (while g c)) l s p
+
+module _ {store programme : List ℕ} {rule budget room : ℕ} (g : Good store programme rule budget room) (k : ℕ) where
+  -- "Before each step, if steps done equal the budget, the run is spent": k steps are done, and in a block of the sheet, which the run has
+  -- entered with the top label, one more is next
+  pub record Spent : Type 0 where
+    pub number : ℕ
+    pub block : Block
+    pub entry : State
+    pub place : Place
+    pub listed : blockAt (g .opening .tables .slots) programme number ≡ ok block
+    pub entered : runWithin g k number ≡ ok entry
+    pub comes : Comes (setting (g .opening .tables) (g .rules) k block) (block .command) (top (g .opening .tables .order)) entry place
+    pub done : place .state .steps ≡ k
+    pub stops : runAfter g k ≡ refuse (haltIn number (stopAt (place .offset) (place .state) 17))
+
+  -- what the step that is next comes to
+  abbrev pub due : Spent → Result ℕ State
+  due p = outcome (setting (g .opening .tables) (g .rules) k (p .block)) (p .place .state) (p .place .task)
+
+  -- The run that k + 1 steps are allowed: the same, where it had ended, or after fewer than k steps the rules forbade one; where it was spent,
+  -- it is on by the step that is next, or the rules forbid that one there: "A forbidden step is not counted."
+  pub data Next : Result Halt State → Type 0 where
+    ended : {s : State} → runAfter g k ≡ ok s → Next (ok s)
+    refused : {h : Halt} → runAfter g k ≡ refuse h → (h .stop .number ≡ 17 → ⊥) → h .stop .state .steps < k → Next (refuse h)
+    taken : {r : Result Halt State} (p : Spent) → due p ≡ ok (reached r) → Next r
+    forbidden : {n : ℕ} (p : Spent) → due p ≡ refuse n → Next (refuse (haltIn (p .number) (stopAt (p .place .offset) (p .place .state) n)))
+
+-- The run goes step by step from the opening store on, each time by the step that is next. The steps done are the smaller of those allowed
+-- and the run's own.
 pub record Stepwise (store programme : List ℕ) (rule budget room : ℕ) (g : Good store programme rule budget room) : Type 0 where
   pub opens : stateAfter g 0 ≡ start (g .opening .store)
-  pub goes : (k : ℕ) → Next (stateAfter g k) (stateAfter g (k + 1))
-  pub counts : (k : ℕ) → stateAfter g k .steps ≤ k
-  pub ends : stateAfter g budget ≡ reached (ownRun g)
+  pub goes : (k : ℕ) → Next g k (runAfter g (k + 1))
+  pub counts : (k k′ : ℕ) → k ≤ k′ → stateAfter g k .steps ≡ min k (stateAfter g k′ .steps)
+  pub ends : runAfter g budget ≡ ownRun g
 
 abbrev pub StepByStep : Type 0
 StepByStep =
