@@ -1,2 +1,2 @@
 // What blocks do, what a whole run answers and leaves, and what isolation means. Definitions in specs/, laws and theorems in proofs/;
-// no code.
+// no code. Every promised theorem stands in one record: specs/Promises.antt.
