@@ -14,8 +14,9 @@ use Rattle.calculus.proofs.Stepwise.{step-by-step}
 use Rattle.calculus.proofs.Capability.{capability-safety}
 use Rattle.calculus.proofs.Integrity.{write-integrity}
 use Rattle.calculus.proofs.Provenance.{provenance-safety}
-use Rattle.calculus.proofs.Deputy.{deputy-safety}
+use Rattle.calculus.proofs.Deputy.{capability-deputy-safety, deputy-safety, full-deputy-safety, noninterference-suffices, isolation-suffices}
 use Rattle.calculus.proofs.Whole.{whole-worked, whole-run-not-safe}
+use Rattle.calculus.proofs.Chosen.{chosen-worked, not-enough-under-capability}
 use Rattle.calculus.proofs.Endorsed.{endorsed-worked, endorsed-not-isolated}
 use Rattle.calculus.proofs.Unrelated.{unrelated-protected}
 use Rattle.calculus.proofs.Vectors.{vectors-hold, descents-hold, faults-hold}
@@ -44,10 +45,16 @@ promises =
       step-by-step = step-by-step;
       capability-safety = capability-safety;
       write-integrity = write-integrity;
+      capability-deputy-safety = capability-deputy-safety;
       provenance-safety = provenance-safety;
       deputy-safety = deputy-safety;
+      full-deputy-safety = full-deputy-safety;
+      noninterference-suffices = noninterference-suffices;
+      isolation-suffices = isolation-suffices;
       whole-worked = whole-worked;
       whole-run-not-safe = whole-run-not-safe;
+      chosen-worked = chosen-worked;
+      not-enough-under-capability = not-enough-under-capability;
       signed-integers = signed-integers;
       running-starts = running-starts;
       three-worked = three-worked;

@@ -11,11 +11,12 @@ use Rattle.calculus.specs.Ladder.{Ladder, Descent, Further, OwnRefusals,
 use Rattle.calculus.specs.Isolation.{FullRules, Isolation}
 use Rattle.calculus.specs.Kept.{StepByStep, CapabilitySafety, WriteIntegrity}
 use Rattle.calculus.specs.Steps.{WhileLaw, StepsBounded}
-use Rattle.calculus.specs.Deputy.{ProvenanceSafety, DeputySafety}
+use Rattle.calculus.specs.Deputy.{ProvenanceSafety, CapabilityDeputySafety, DeputySafety, FullDeputySafety, NoninterferenceSuffices, IsolationSuffices}
 use Rattle.calculus.specs.Vectors.{VectorsHold}
 use Rattle.calculus.specs.Unrelated.{UnrelatedProtected}
 use Rattle.calculus.specs.Endorsed.{EndorsedIsolation, EndorsedWorked}
 use Rattle.calculus.specs.Whole.{WholeRunSafety, WholeWorked}
+use Rattle.calculus.specs.Chosen.{SufficesUnderCapability, ChosenWorked}
 use Rattle.calculus.specs.Descents.{DescentsHold}
 use Rattle.calculus.specs.Faults.{FaultsHold}
 
@@ -45,14 +46,21 @@ pub record Promises : Type 0 where
   pub further : Further
   pub own-refusals : OwnRefusals
   pub descents-hold : DescentsHold
-  -- Document 02, N2, and source 003, theorems 2 and 5: what slots keep at every step. Over whole runs with endorsed blocks theorem 5 is false.
+  -- Document 02, N2, and source 003, theorem 2: what slots keep at every step
   pub step-by-step : StepByStep
   pub capability-safety : CapabilitySafety
   pub write-integrity : WriteIntegrity
+  -- Source 003, theorems 4 to 7: no confused deputy. Over whole runs with endorsed blocks theorem 5 is false, and under rule 1 theorem 7.
+  pub capability-deputy-safety : CapabilityDeputySafety
   pub provenance-safety : ProvenanceSafety
   pub deputy-safety : DeputySafety
+  pub full-deputy-safety : FullDeputySafety
+  pub noninterference-suffices : NoninterferenceSuffices
+  pub isolation-suffices : IsolationSuffices
   pub whole-worked : WholeWorked
   pub whole-run-not-safe : WholeRunSafety → ⊥
+  pub chosen-worked : ChosenWorked
+  pub not-enough-under-capability : SufficesUnderCapability → ⊥
   -- Document 02, N3: integers of 64 bits
   pub signed-integers : SignedIntegers
   -- Document 02, N4: the running start of blocks
