@@ -1,12 +1,13 @@
 /*
  * The proved runner's static library, libcapi.a, for C and C++.
  *
- * A sheet or an output is passed as a pointer and its length in bytes. No
- * pointer may be NULL, also where a length is 0. Buffers and numbers that a
- * call writes must not overlap each other or a sheet. The calls keep no
- * pointer, take no memory from the heap and hold no state, so threads may call
- * them at the same time over buffers of their own. A call takes about 80 KiB of
- * stack.
+ * A sheet or an output is passed as a pointer and its length in bytes. Where
+ * the length is 0 the pointer may be NULL: nothing is read or written through
+ * it. The pointers to block, offset and steps may never be NULL. Buffers and
+ * numbers that a call writes must not overlap each other or a sheet. The calls
+ * keep no pointer, take no memory from the heap and hold no state, so threads
+ * may call them at the same time over buffers of their own. A call takes about
+ * 80 KiB of stack.
  *
  * Every input has an answer: any bytes may be passed as a sheet.
  */
@@ -156,7 +157,8 @@ uint32_t muntyzhap_check_programme(const uint8_t *sheet, size_t sheet_length,
  *
  * store, store_length: the store sheet.
  * programme, programme_length: the programme sheet.
- * rule: the number of a rule.
+ * rule: the number of a rule. One that is not 0, 1, 2, 3 or 255 is refused by
+ *   MUNTYZHAP_ARGUMENTS; no byte of it is cut off.
  * budget: the most steps, 0 to MUNTYZHAP_MOST_BUDGET. A step is one guard
  *   judged or one assignment made.
  * out, out_length: the output, MUNTYZHAP_VALUE_BYTES for each slot.
@@ -167,7 +169,7 @@ uint32_t muntyzhap_check_programme(const uint8_t *sheet, size_t sheet_length,
  */
 uint32_t muntyzhap_run(const uint8_t *store, size_t store_length,
                        const uint8_t *programme, size_t programme_length,
-                       uint8_t rule, uint32_t budget, uint8_t *out,
+                       uint32_t rule, uint32_t budget, uint8_t *out,
                        size_t out_length, size_t *block, size_t *offset,
                        uint32_t *steps);
 

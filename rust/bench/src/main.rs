@@ -14,11 +14,13 @@ mod workloads;
 
 use std::io::{self, Write};
 
+use muntyzhap::BuildError;
+
 use crate::timing::Case;
 use crate::workloads::{full_sheets, of_long_steps, of_skipping, of_speed, Unit, Workload};
 
 /// Full provenance and access control.
-const RULES: [u8; 2] = [3, 0];
+const RULES: [u32; 2] = [3, 0];
 /// How often each case is timed. A round goes over all cases, so that what
 /// else the machine does for a while spoils no case's every time.
 const ROUNDS: u32 = 25;
@@ -27,9 +29,9 @@ const MOST_RATIO: f64 = 0.5;
 /// The most that a long part may cost where it isn't taken, as a quotient.
 const MOST_SKIPPING: f64 = 1.5;
 
-fn main() {
-    let (speed, skipping, full, longest) =
-        (of_speed(), of_skipping(), [full_sheets()], of_long_steps());
+fn main() -> Result<(), BuildError> {
+    let (speed, skipping) = (of_speed()?, of_skipping()?);
+    let (full, longest) = ([full_sheets()?], of_long_steps()?);
     let mut speed = cases(speed.iter());
     let mut short = cases(skipping.iter().map(|[short, _]| short));
     let mut long = cases(skipping.iter().map(|[_, long]| long));
@@ -54,9 +56,10 @@ fn main() {
     lines.extend(worst(steps()).map(|case| format!("worst step found: {}", time_of(case))));
     for line in lines {
         if writeln!(io::stdout(), "{line}").is_err() {
-            return; // Nobody reads on.
+            break; // Nobody reads on.
         }
     }
+    Ok(())
 }
 
 /// Every workload under every rule.

@@ -1,32 +1,25 @@
 //! Store sheets and programme sheets.
 
-use muntyzhap::code::Code;
+use muntyzhap::code::Command;
 use muntyzhap::sheet::{self, store_sheet, Block, Slot, MOST_PRINCIPALS};
-use muntyzhap::Value;
+use muntyzhap::{BuildError, Value};
 
 /// The principal that owns and runs what no other is named for.
 const ONLY: u8 = 0;
 
 /// A store of one principal, which owns every slot: every rule but the kinds'
 /// is met by whatever runs over it.
-pub fn store_of_one(values: &[Value]) -> Vec<u8> {
-    let owned = |value: &Value| Slot {
-        owner: ONLY,
-        value: *value,
-    };
-    let slots: Vec<Slot> = values.iter().map(owned).collect();
-    store_sheet(&[1], &slots)
+pub fn store_of_one(values: &[Value]) -> Result<Vec<u8>, BuildError> {
+    let slots = values.iter().map(|value| Slot::new(ONLY, *value));
+    store_sheet(&[1], &slots.collect::<Result<Vec<_>, _>>()?)
 }
 
 /// A full store: 32 principals in a chain, and 256 slots shared among them.
-pub fn full_store() -> Vec<u8> {
+pub fn full_store() -> Result<Vec<u8>, BuildError> {
     let masks: Vec<u32> = (0..32).map(|i| u32::MAX >> (31 - i)).collect();
-    let shared = |slot| Slot {
-        owner: slot % MOST_PRINCIPALS as u8,
-        value: any_value(slot),
-    };
-    let slots: Vec<Slot> = (0..=u8::MAX).map(shared).collect();
-    store_sheet(&masks, &slots)
+    let shared = |slot| Slot::new(slot % MOST_PRINCIPALS as u8, any_value(slot));
+    let slots = (0..=u8::MAX).map(shared);
+    store_sheet(&masks, &slots.collect::<Result<Vec<_>, _>>()?)
 }
 
 fn any_value(slot: u8) -> Value {
@@ -39,8 +32,8 @@ fn any_value(slot: u8) -> Value {
 }
 
 /// A programme whose blocks all run for principal 0, none of them endorsed.
-pub fn programme(blocks: &[Code]) -> Vec<u8> {
-    let blocks = blocks.iter().map(|code| Block::new(ONLY, code.clone()));
-    let blocks: Vec<Block> = blocks.collect();
-    sheet::programme_sheet(&blocks)
+pub fn programme(blocks: &[Command]) -> Result<Vec<u8>, BuildError> {
+    let commands = blocks.iter().cloned();
+    let blocks = commands.map(|command| Block::new(ONLY, command));
+    sheet::programme_sheet(&blocks.collect::<Result<Vec<_>, _>>()?)
 }

@@ -10,13 +10,13 @@ use crate::workloads::{Unit, Workload};
 /// How long one repetition takes at least: short runs are played many times.
 const LEAST: Duration = Duration::from_millis(20);
 
-type Runner = fn(&[u8], &[u8], u8, u32, &mut [u8]) -> Answer;
+type Runner = fn(&[u8], &[u8], u32, u32, &mut [u8]) -> Answer;
 
 /// The proved runner first.
 const RUNNERS: [Runner; 2] = [proved_run, second_runner::run];
 
 /// One run by the proved runner, answered as the second one does.
-fn proved_run(store: &[u8], programme: &[u8], rule: u8, budget: u32, output: &mut [u8]) -> Answer {
+fn proved_run(store: &[u8], programme: &[u8], rule: u32, budget: u32, output: &mut [u8]) -> Answer {
     let answer = muntyzhap::raw::run(store, programme, rule, budget, output);
     Answer {
         number: answer.number,
@@ -34,7 +34,7 @@ fn narrow(place: usize) -> u32 {
 /// A workload under a rule, and the best times so far.
 pub struct Case<'a> {
     pub workload: &'a Workload,
-    pub rule: u8,
+    pub rule: u32,
     /// The steps of one run.
     pub steps: u32,
     /// The runs of a repetition, by each runner.
@@ -45,7 +45,7 @@ pub struct Case<'a> {
 
 impl<'a> Case<'a> {
     /// A case that both runners agree on.
-    pub fn new(workload: &'a Workload, rule: u8) -> Case<'a> {
+    pub fn new(workload: &'a Workload, rule: u32) -> Case<'a> {
         let mut case = Case {
             workload,
             rule,

@@ -2,7 +2,7 @@
 
 use muntyzhap::code::*;
 use muntyzhap::sheet::{MOST_BLOCKS, MOST_CODE, MOST_SLOTS};
-use muntyzhap::{Value, MOST_BUDGET};
+use muntyzhap::{BuildError, Value, MOST_BUDGET};
 
 use crate::code::{filled, filled_widely, forever};
 use crate::sheets::{full_store, programme, store_of_one};
@@ -25,53 +25,61 @@ pub struct Workload {
 }
 
 impl Workload {
-    fn new(name: &'static str, values: &[Value], blocks: &[Code]) -> Workload {
-        Workload {
+    fn new(
+        name: &'static str,
+        values: &[Value],
+        blocks: &[Command],
+    ) -> Result<Workload, BuildError> {
+        Ok(Workload {
             name,
             unit: Unit::Step,
-            store: store_of_one(values),
-            programme: programme(blocks),
+            store: store_of_one(values)?,
+            programme: programme(blocks)?,
             budget: MOST_BUDGET,
             output: values.len() * Value::BYTES,
-        }
+        })
     }
 }
 
 /// (a) to (d): those of which a ratio is asked.
-pub fn of_speed() -> Vec<Workload> {
-    vec![
-        assignments(),
-        nested_ifs(),
-        chains_of_reads(),
-        short_blocks(),
-    ]
+pub fn of_speed() -> Result<Vec<Workload>, BuildError> {
+    Ok(vec![
+        assignments()?,
+        nested_ifs()?,
+        chains_of_reads()?,
+        short_blocks()?,
+    ])
 }
 
-fn assignments() -> Workload {
-    let body = sequence(&[
+/// Two literals, and a copy of each.
+fn four_assignments() -> Result<Command, BuildError> {
+    sequence(&[
         assign(0, literal(Value::Integer(7))),
         assign(1, read(0)),
         assign(2, literal(Value::Integer(9))),
         assign(3, read(2)),
-    ]);
-    let values = [Value::Integer(0); 4];
-    Workload::new("a  assignments in a loop", &values, &[forever(body)])
+    ])
 }
 
-fn nested_ifs() -> Workload {
+fn assignments() -> Result<Workload, BuildError> {
+    let body = forever(four_assignments()?)?;
+    Workload::new("a  assignments in a loop", &[Value::Integer(0); 4], &[body])
+}
+
+fn nested_ifs() -> Result<Workload, BuildError> {
     const DEEP: u8 = 8;
     let innermost = assign(DEEP, literal(Value::Integer(1)));
     // Then-part and else-part are taken in turn.
-    let body = (0..DEEP).rev().fold(innermost, |inner, slot| {
+    let body = (0..DEEP).rev().try_fold(innermost, |inner, slot| {
         if slot % 2 == 0 {
             if_command(read(slot), inner, skip())
         } else {
             if_command(read(slot), skip(), inner)
         }
-    });
+    })?;
     let mut values: Vec<Value> = (0..DEEP).map(|slot| Value::Truth(slot % 2 == 0)).collect();
     values.push(Value::Integer(0));
-    Workload::new("b  ifs nested 8 deep", &values, &[forever(body)])
+    Workload::new("b  ifs nested 8 deep", &values, &[forever(body)?])
 }
 
 /// Slots from `first` on: views to be read in a row, and what the last read
@@ -84,101 +92,95 @@ fn chain(first: u8, last: Value) -> Vec<Value> {
     values
 }
 
-fn chains_of_reads() -> Workload {
+fn chains_of_reads() -> Result<Workload, BuildError> {
     let mut values = chain(0, Value::Truth(true));
     let slot = values.len() as u8;
     values.push(Value::Integer(0));
-    let all = reads(MOST_READS, 0);
-    let code = while_command(all.clone(), assign(slot, all));
+    let all = reads(MOST_READS, 0)?;
+    let code = while_command(all.clone(), assign(slot, all))?;
     Workload::new("c  8 reads in a row", &values, &[code])
 }
 
-fn short_blocks() -> Workload {
-    let block = sequence(&[
-        assign(0, literal(Value::Integer(7))),
-        assign(1, read(0)),
-        assign(2, literal(Value::Integer(9))),
-        assign(3, read(2)),
-    ]);
-    let values = [Value::Integer(0); 4];
-    Workload::new("d  64 short blocks", &values, &vec![block; MOST_BLOCKS])
+fn short_blocks() -> Result<Workload, BuildError> {
+    let blocks = vec![four_assignments()?; MOST_BLOCKS];
+    Workload::new("d  64 short blocks", &[Value::Integer(0); 4], &blocks)
 }
 
 /// (e): pairs of one loop, first with a short part that isn't taken, then with
 /// a long one.
-pub fn of_skipping() -> Vec<[Workload; 2]> {
+pub fn of_skipping() -> Result<Vec<[Workload; 2]>, BuildError> {
     const LONG: usize = 16_000;
-    let (short, long) = (skip(), filled_widely(LONG));
-    vec![
+    let (short, long) = (skip(), filled_widely(LONG)?);
+    Ok(vec![
         [
-            then_part_skipped("e  short then-part skipped", &short),
-            then_part_skipped("e  long then-part skipped", &long),
+            then_part_skipped("e  short then-part skipped", &short)?,
+            then_part_skipped("e  long then-part skipped", &long)?,
         ],
         [
-            else_part_skipped("e  short else-part skipped", &short),
-            else_part_skipped("e  long else-part skipped", &long),
+            else_part_skipped("e  short else-part skipped", &short)?,
+            else_part_skipped("e  long else-part skipped", &long)?,
         ],
-    ]
+    ])
 }
 
-fn then_part_skipped(name: &'static str, part: &Code) -> Workload {
+fn then_part_skipped(name: &'static str, part: &Command) -> Result<Workload, BuildError> {
     let taken = assign(1, literal(Value::Integer(1)));
-    let body = if_command(read(0), part.clone(), taken);
+    let body = if_command(read(0), part.clone(), taken)?;
     let values = [Value::Truth(false), Value::Integer(0)];
-    Workload::new(name, &values, &[forever(body)])
+    Workload::new(name, &values, &[forever(body)?])
 }
 
-fn else_part_skipped(name: &'static str, part: &Code) -> Workload {
+fn else_part_skipped(name: &'static str, part: &Command) -> Result<Workload, BuildError> {
     let taken = assign(1, literal(Value::Integer(1)));
-    let body = if_command(read(0), taken, part.clone());
+    let body = if_command(read(0), taken, part.clone())?;
     let values = [Value::Truth(true), Value::Integer(0)];
-    Workload::new(name, &values, &[forever(body)])
+    Workload::new(name, &values, &[forever(body)?])
 }
 
 /// (g): the steps that take longest, each in another way.
-pub fn of_long_steps() -> Vec<Workload> {
-    let flat = sequence(&vec![sequence(&vec![skip(); 255]); 63]);
-    let short = sequence(&[skip(), skip()]);
-    let pairs = sequence(&vec![sequence(&vec![short; 240]); 17]);
-    let deep = (0..29).fold(skip(), |inner, _| sequence(&[inner, skip()]));
-    let deeply = sequence(&vec![deep; 185]);
-    vec![
-        chains_on_both_sides(),
-        skips_for_a_step("g  16,065 skips a step", flat),
-        skips_for_a_step("g  8,160 skips in pairs a step", pairs),
-        skips_for_a_step("g  5,550 skips 32 deep a step", deeply),
-    ]
+pub fn of_long_steps() -> Result<Vec<Workload>, BuildError> {
+    let flat = sequence(&vec![sequence(&vec![skip(); 255])?; 63])?;
+    let short = sequence(&[skip(), skip()])?;
+    let pairs = sequence(&vec![sequence(&vec![short; 240])?; 17])?;
+    let deep = (0..29).try_fold(skip(), |inner, _| sequence(&[inner, skip()]))?;
+    let deeply = sequence(&vec![deep; 185])?;
+    Ok(vec![
+        chains_on_both_sides()?,
+        skips_for_a_step("g  16,065 skips a step", flat)?,
+        skips_for_a_step("g  8,160 skips in pairs a step", pairs)?,
+        skips_for_a_step("g  5,550 skips 32 deep a step", deeply)?,
+    ])
 }
 
 /// (f): judging sheets as large as they may be. No step is allowed.
-pub fn full_sheets() -> Workload {
-    let block = filled(MOST_CODE / MOST_BLOCKS);
-    Workload {
+pub fn full_sheets() -> Result<Workload, BuildError> {
+    let block = filled(MOST_CODE / MOST_BLOCKS)?;
+    Ok(Workload {
         name: "f  full sheets, budget 0",
         unit: Unit::Run,
-        store: full_store(),
-        programme: programme(&vec![block; MOST_BLOCKS]),
+        store: full_store()?,
+        programme: programme(&vec![block; MOST_BLOCKS])?,
         budget: 0,
         output: MOST_SLOTS * Value::BYTES,
-    }
+    })
 }
 
 /// The step that evaluates most: 8 reads for the target and 8 for the value.
-fn chains_on_both_sides() -> Workload {
+fn chains_on_both_sides() -> Result<Workload, BuildError> {
     let mut values = chain(0, Value::WriteView(2 * MOST_READS as u8));
     let second = values.len() as u8;
     values.extend(chain(second, Value::Integer(5)));
     values.push(Value::Integer(0));
-    let each = assignment(reads(MOST_READS, 0), reads(MOST_READS, second));
-    let body = sequence(&vec![each; 64]);
-    Workload::new("g  8 reads, target and value", &values, &[forever(body)])
+    let each = assignment(reads(MOST_READS, 0)?, reads(MOST_READS, second)?);
+    let body = forever(sequence(&vec![each; 64])?)?;
+    Workload::new("g  8 reads, target and value", &values, &[body])
 }
 
 /// The step that enters most commands: a skip is none, so a guard may stand
 /// for a body full of them.
-fn skips_for_a_step(name: &'static str, body: Code) -> Workload {
-    Workload {
+fn skips_for_a_step(name: &'static str, body: Command) -> Result<Workload, BuildError> {
+    Ok(Workload {
         budget: 400,
-        ..Workload::new(name, &[], &[forever(body)])
-    }
+        ..Workload::new(name, &[], &[forever(body)?])?
+    })
 }

@@ -345,11 +345,11 @@ mod tests {
     use crate::code::programme_sheet;
     use crate::second;
 
-    const RULES: [u8; 4] = [0, 1, 2, 3];
+    const RULES: [u32; 4] = [0, 1, 2, 3];
 
     /// How often each number is the answer under a rule to programmes that
     /// were written with this care.
-    fn answers(care: Care, rule: u8) -> [u32; 18] {
+    fn answers(care: Care, rule: u32) -> [u32; 18] {
         let mut counts = [0; 18];
         for case in 0..1_000 {
             let mut random = Random::of_case(11, case);

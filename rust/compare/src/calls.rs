@@ -29,7 +29,7 @@ pub enum Call {
 pub struct Run {
     pub store: Vec<u8>,
     pub programme: Vec<u8>,
-    pub rule: u8,
+    pub rule: u32,
     pub budget: u32,
     pub output_length: usize,
 }
@@ -82,7 +82,7 @@ impl Lent {
 }
 
 /// A way to run: store, programme, rule, budget and output.
-type Runner = fn(&[u8], &[u8], u8, u32, &mut [u8]) -> Answer;
+type Runner = fn(&[u8], &[u8], u32, u32, &mut [u8]) -> Answer;
 
 impl Run {
     fn by(&self, runner: Runner) -> Seen {

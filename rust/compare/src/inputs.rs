@@ -5,9 +5,10 @@ use std::fmt::{self, Display, Formatter};
 use crate::author::{Author, Care};
 use crate::calls::Run;
 use crate::code::programme_sheet;
-use crate::play_runs::{other_rule, plain_run, random_budget, random_sheets, RULES};
+use crate::play_runs::{plain_run, random_budget, random_sheets, RULES};
 use crate::play_sheets::{good_programme, random_programme, random_store};
 use crate::random::Random;
+use crate::rule_numbers::other_byte;
 use crate::sheets::{store_sheet_at_limit, Store};
 
 /// The most bytes that the program reads.
@@ -101,7 +102,7 @@ impl Input {
     pub fn random(random: &mut Random) -> Input {
         let end = End::random(random);
         let run = random_run(random, end);
-        let mut bytes = vec![run.rule];
+        let mut bytes = vec![u8::try_from(run.rule).expect("a rule byte")];
         bytes.extend(run.budget.to_le_bytes());
         bytes.extend(&run.store);
         let store = bytes.len();
@@ -124,7 +125,7 @@ fn random_run(random: &mut Random, end: End) -> Run {
         run.budget = random_budget(random, run.second().answer);
     }
     if random.one_in(30) {
-        run.rule = other_rule(random);
+        run.rule = u32::from(other_byte(random));
     }
     run
 }

@@ -39,6 +39,7 @@ mod proved;
 mod proved;
 mod random;
 mod rehearsal;
+mod rule_numbers;
 mod second;
 mod sheets;
 mod tally;
@@ -200,6 +201,7 @@ fn play_runs(seed: u64, count: u64) -> Report {
                 "{count} pairs of sheets of seed {seed}, {runs} runs: no difference"
             ));
             report.say_answers(&tallies);
+            report.say(&played.wide);
             report.say(played.budgets);
             report.say_all(played.high_bytes.lines());
             report.say_all(played.integers.lines());

@@ -27,11 +27,11 @@ use crate::values::{Kind, Value};
 
 /// The rule numbers of the two runs of a pair.
 #[derive(Debug, Clone, Copy, PartialEq, Eq)]
-struct Rules([u8; 2]);
+struct Rules([u32; 2]);
 
 impl Rules {
     /// The numbers that mean full provenance.
-    const FULL: [u8; 2] = [3, 255];
+    const FULL: [u32; 2] = [3, 255];
     const FULL_PROVENANCE: Rules = Rules([3, 3]);
     /// One number for both runs, and those of full provenance mixed.
     const ALL: [Rules; 7] = [

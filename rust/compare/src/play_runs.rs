@@ -10,8 +10,9 @@ use crate::integers::Integers;
 use crate::limits::programme_at_limit;
 use crate::play_sheets::{good_programme, large_programme, random_programme};
 use crate::random::Random;
+use crate::rule_numbers::{other_rule, WIDE};
 use crate::sheets::{flawed_store_sheet, Store};
-use crate::tally::Tally;
+use crate::tally::{Checklist, Tally};
 use crate::values::Value;
 
 pub const MOST_BUDGET: u32 = 1_000_000;
@@ -21,7 +22,7 @@ const AMPLE: u32 = 3_000;
 
 /// The rules, each with the numbers from 14 to 16 that it can refuse by and
 /// those that it cannot.
-pub const RULES: [(u8, &[u32], &[u32]); 5] = [
+pub const RULES: [(u32, &[u32], &[u32]); 5] = [
     (0, &[14], &[15, 16]),
     (1, &[15], &[14, 16]),
     (2, &[14, 16], &[15]),
@@ -73,12 +74,14 @@ impl Display for Budgets {
     }
 }
 
-/// Counts of each rule, of rule numbers that there are not, of budgets, of
-/// ill-formed values and of the integers that runs end with.
+/// Counts of each rule, of rule numbers that there are not, of those among them
+/// that are wide, of budgets, of ill-formed values and of the integers that runs
+/// end with.
 #[derive(Debug, Clone)]
 pub struct Played {
-    rules: Vec<(u8, Tally)>,
+    rules: Vec<(u32, Tally)>,
     other: Tally,
+    pub wide: Checklist,
     pub budgets: Budgets,
     pub high_bytes: HighBytes,
     pub integers: Integers,
@@ -86,7 +89,7 @@ pub struct Played {
 
 impl Played {
     fn new() -> Played {
-        let tally = |(rule, due, impossible): (u8, &[u32], &[u32])| {
+        let tally = |(rule, due, impossible): (u32, &[u32], &[u32])| {
             // A run of any rule can be refused ahead of it.
             let mut all_due: Vec<u32> = (0..=13).collect();
             all_due.extend_from_slice(due);
@@ -100,6 +103,7 @@ impl Played {
         Played {
             rules: RULES.into_iter().map(tally).collect(),
             other: Tally::new("another rule", &[11], &not_11),
+            wide: Checklist::new("rule numbers past a byte", WIDE),
             budgets: Budgets::default(),
             high_bytes: HighBytes::default(),
             integers: Integers::default(),
@@ -111,6 +115,7 @@ impl Played {
         let tallies = self.tallies();
         let answers = tallies.iter().flat_map(|tally| tally.complaints());
         let others = [
+            self.wide.complaints(),
             self.budgets.complaints(),
             self.high_bytes.complaints(),
             self.integers.complaints(),
@@ -124,10 +129,11 @@ impl Played {
     }
 
     /// Counts a run under this rule by what is seen of it.
-    fn count(&mut self, rule: u8, call: &Call, seen: &Seen) {
+    fn count(&mut self, rule: u32, call: &Call, seen: &Seen) {
         let found = self.rules.iter_mut().find(|(own, _)| *own == rule);
         let tally = found.map_or(&mut self.other, |(_, tally)| tally);
         tally.count(seen.answer.number);
+        self.wide.count(rule);
         self.high_bytes.count(call, seen.answer);
         if let (0, Some(store)) = (seen.answer.number, call.store()) {
             self.integers.count(store, seen.output());
@@ -178,7 +184,7 @@ pub fn random_sheets(random: &mut Random) -> (Vec<u8>, Vec<u8>) {
 }
 
 /// A run with enough budget and the output that the store sheet asks for.
-pub fn plain_run(store: &[u8], programme: &[u8], rule: u8) -> Run {
+pub fn plain_run(store: &[u8], programme: &[u8], rule: u32) -> Run {
     Run {
         store: store.to_vec(),
         programme: programme.to_vec(),
@@ -200,14 +206,6 @@ fn change_arguments(random: &mut Random, run: &mut Run) {
     }
     if random.one_in(30) {
         run.rule = other_rule(random);
-    }
-}
-
-/// Any rule number, mostly one that there is not.
-pub fn other_rule(random: &mut Random) -> u8 {
-    match random.one_in(2) {
-        true => random.pick(&[4, 5, 128, 254]),
-        false => random.byte(),
     }
 }
 
@@ -312,7 +310,7 @@ mod tests {
     #[test]
     fn every_other_rule_number_is_refused() {
         let (mut run, _) = runs_that_take_place(1).remove(0);
-        for rule in 0..=255 {
+        for rule in (0..=0x1FF).chain(WIDE) {
             run.rule = rule;
             let known = RULES.iter().any(|(known, _, _)| *known == rule);
             assert_eq!(answer(&run).number == 11, !known, "rule {rule}");

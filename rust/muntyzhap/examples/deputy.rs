@@ -8,7 +8,7 @@ mod laboratory;
 use laboratory::{print_slots, CUSTOMER, LABORATORY, ORDER};
 use muntyzhap::code::{assign, assignment, literal, read, sequence};
 use muntyzhap::sheet::{command_at, output_bytes, programme_sheet, store_sheet, Block, Slot};
-use muntyzhap::{run, Refusal, Rule, Value};
+use muntyzhap::{run, BuildError, Refusal, Rule, Value};
 
 /// The customer's: where its result shall go, and its result.
 const PLACE: u8 = 0;
@@ -20,33 +20,30 @@ const BUDGET: u32 = 10;
 /// What the output holds before a run.
 const BEFORE: u8 = 0xA5;
 
-fn store() -> Vec<u8> {
-    let slot = |owner, value| Slot { owner, value };
-    store_sheet(
-        &ORDER,
-        &[
-            slot(CUSTOMER, Value::WriteView(RESULT)),
-            slot(CUSTOMER, Value::Integer(0)),
-            slot(LABORATORY, Value::Integer(50_000)),
-            slot(LABORATORY, Value::Truth(false)),
-        ],
-    )
+fn store() -> Result<Vec<u8>, BuildError> {
+    let slots = [
+        Slot::new(CUSTOMER, Value::WriteView(RESULT))?,
+        Slot::new(CUSTOMER, Value::Integer(0))?,
+        Slot::new(LABORATORY, Value::Integer(50_000))?,
+        Slot::new(LABORATORY, Value::Truth(false))?,
+    ];
+    store_sheet(&ORDER, &slots)
 }
 
-fn programme() -> Vec<u8> {
+fn programme() -> Result<Vec<u8>, BuildError> {
     // The customer names the curve's row as the place for its result.
     let named = assign(PLACE, literal(Value::WriteView(CURVE)));
     // The laboratory notes the delivery and writes where the customer says.
     let noted = assign(DELIVERED, literal(Value::Truth(true)));
     let delivered = assignment(read(PLACE), literal(Value::Integer(42)));
     programme_sheet(&[
-        Block::new(CUSTOMER, named),
-        Block::new(LABORATORY, sequence(&[noted, delivered])),
+        Block::new(CUSTOMER, named)?,
+        Block::new(LABORATORY, sequence(&[noted, delivered])?)?,
     ])
 }
 
-fn main() {
-    let (store, programme) = (store(), programme());
+fn main() -> Result<(), BuildError> {
+    let (store, programme) = (store()?, programme()?);
     for rule in [Rule::AccessControl, Rule::FullProvenance, Rule::House] {
         let mut out = vec![BEFORE; output_bytes(&store)];
         println!("rule {}, {rule}", rule.number());
@@ -59,6 +56,7 @@ fn main() {
             Err(refusal) => print_refusal(&refusal, &programme, &out),
         }
     }
+    Ok(())
 }
 
 /// Prints what was refused, the command that stands there, and whether the

@@ -5,10 +5,12 @@
 
 mod laboratory;
 
+use std::error::Error;
+
 use laboratory::{print_slots, CUSTOMER, LABORATORY, ORDER};
 use muntyzhap::code::{assign, literal, read};
 use muntyzhap::sheet::{output_bytes, programme_sheet, store_sheet, Block, Slot};
-use muntyzhap::{run, Integer, Refusal, Rule, Value};
+use muntyzhap::{run, BuildError, Integer, Rule, Value};
 
 /// The customer's sample.
 const SAMPLE: u8 = 0;
@@ -21,29 +23,26 @@ const RATIO: Integer = 815_042_637_915;
 /// What stands for a ratio that is not measured.
 const NOT_MEASURED: Integer = Integer::MIN;
 
-fn store() -> Vec<u8> {
-    let not_measured = |owner| Slot {
-        owner,
-        value: Value::Integer(NOT_MEASURED),
-    };
-    let (sample, report) = (not_measured(CUSTOMER), not_measured(LABORATORY));
-    let blank = not_measured(LABORATORY);
+fn store() -> Result<Vec<u8>, BuildError> {
+    let not_measured = |owner| Slot::new(owner, Value::Integer(NOT_MEASURED));
+    let (sample, report) = (not_measured(CUSTOMER)?, not_measured(LABORATORY)?);
+    let blank = not_measured(LABORATORY)?;
     store_sheet(&ORDER, &[sample, report, blank])
 }
 
-fn programme() -> Vec<u8> {
+fn programme() -> Result<Vec<u8>, BuildError> {
     let measured = assign(SAMPLE, literal(Value::Integer(RATIO)));
     let reported = assign(REPORT, read(SAMPLE));
     programme_sheet(&[
-        Block::new(CUSTOMER, measured),
-        Block::new(LABORATORY, reported),
+        Block::new(CUSTOMER, measured)?,
+        Block::new(LABORATORY, reported)?,
     ])
 }
 
-fn main() -> Result<(), Refusal> {
-    let store = store();
+fn main() -> Result<(), Box<dyn Error>> {
+    let store = store()?;
     let mut out = vec![0; output_bytes(&store)];
-    let finished = run(&store, &programme(), Rule::AccessControl, BUDGET, &mut out)?;
+    let finished = run(&store, &programme()?, Rule::AccessControl, BUDGET, &mut out)?;
     println!(
         "finished: {} blocks, {} steps",
         finished.blocks, finished.steps

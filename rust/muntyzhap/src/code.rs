@@ -1,11 +1,11 @@
-//! The code of a block, written from named parts.
+//! The code of a block, written from named parts. What is built here is read by
+//! the library as it was meant, save for what only a store can tell: whether it
+//! has the slots that the views are of (9).
 
 use std::fmt::{self, Display, Formatter};
 
+use crate::build_error::BuildError;
 use crate::value::Value;
-
-/// The bytes of an expression or a command.
-pub type Code = Vec<u8>;
 
 /// The first byte of a literal.
 pub const LITERAL: u8 = 0x10;
@@ -15,10 +15,14 @@ pub const READ: u8 = 0x11;
 pub const MOST_READS: usize = 8;
 /// How deep commands nest, a block's own command being depth 1.
 pub const MOST_DEPTH: usize = 32;
+/// The fewest commands of a sequence.
+pub const FEWEST_COMMANDS: usize = 2;
+/// The most commands of a sequence: its count is one byte.
+pub const MOST_COMMANDS: usize = u8::MAX as usize;
 
 /// The commands, by their first byte.
 #[derive(Debug, Clone, Copy, PartialEq, Eq)]
-pub enum Command {
+pub enum CommandKind {
     /// Does nothing.
     Skip = 0x20,
     /// Writes a value to the slot that its target views.
@@ -31,13 +35,13 @@ pub enum Command {
     While = 0x24,
 }
 
-impl Command {
-    const ALL: [Command; 5] = [
-        Command::Skip,
-        Command::Assignment,
-        Command::Sequence,
-        Command::If,
-        Command::While,
+impl CommandKind {
+    const ALL: [CommandKind; 5] = [
+        CommandKind::Skip,
+        CommandKind::Assignment,
+        CommandKind::Sequence,
+        CommandKind::If,
+        CommandKind::While,
     ];
 
     /// The byte by which the command is known.
@@ -46,74 +50,186 @@ impl Command {
     }
 
     /// The command that is known by this byte, if one is.
-    pub fn from_byte(byte: u8) -> Option<Command> {
-        let mut all = Command::ALL.into_iter();
-        all.find(|command| command.byte() == byte)
+    pub fn from_byte(byte: u8) -> Option<CommandKind> {
+        let mut all = CommandKind::ALL.into_iter();
+        all.find(|kind| kind.byte() == byte)
     }
 }
 
-impl Display for Command {
+impl Display for CommandKind {
     fn fmt(&self, out: &mut Formatter) -> fmt::Result {
         out.write_str(match self {
-            Command::Skip => "skip",
-            Command::Assignment => "assignment",
-            Command::Sequence => "sequence",
-            Command::If => "if",
-            Command::While => "while",
+            CommandKind::Skip => "skip",
+            CommandKind::Assignment => "assignment",
+            CommandKind::Sequence => "sequence",
+            CommandKind::If => "if",
+            CommandKind::While => "while",
         })
     }
 }
 
-/// An expression that gives this value.
-pub fn literal(value: Value) -> Code {
-    let mut code = vec![LITERAL];
-    code.extend(value.to_bytes());
-    code
+/// An expression, well-formed.
+#[derive(Debug, Clone, PartialEq, Eq)]
+pub struct Expression {
+    bytes: Vec<u8>,
+    /// How many reads stand in a row.
+    depth: usize,
 }
 
-/// So many reads in a row, the innermost one of `slot`.
-pub fn reads(count: usize, slot: u8) -> Code {
-    let mut code = vec![READ; count];
-    code.extend(literal(Value::ReadView(slot)));
-    code
+impl Expression {
+    /// The bytes of its code.
+    pub fn bytes(&self) -> &[u8] {
+        &self.bytes
+    }
+
+    /// What is known by this first byte, around one expression.
+    fn around(first: u8, inner: Expression) -> Result<Expression, BuildError> {
+        let depth = 1 + inner.depth;
+        if depth > MOST_READS {
+            return Err(BuildError::Reads(depth));
+        }
+        let bytes = [vec![first], inner.bytes].concat();
+        Ok(Expression { bytes, depth })
+    }
+}
+
+/// An expression that gives this value.
+pub fn literal(value: Value) -> Expression {
+    let bytes = [[LITERAL].as_slice(), &value.to_bytes()].concat();
+    Expression { bytes, depth: 0 }
+}
+
+/// An expression that gives what the slot holds that another one views.
+///
+/// # Errors
+/// [`BuildError::Reads`] for more than [`MOST_READS`] in a row.
+pub fn read_through(view: Expression) -> Result<Expression, BuildError> {
+    Expression::around(READ, view)
+}
+
+/// So many reads in a row, the innermost one of `slot`; without any, a read view
+/// of it.
+///
+/// # Errors
+/// [`BuildError::Reads`] for more than [`MOST_READS`].
+pub fn reads(count: usize, slot: u8) -> Result<Expression, BuildError> {
+    if count > MOST_READS {
+        return Err(BuildError::Reads(count));
+    }
+    let view = literal(Value::ReadView(slot));
+    (0..count).try_fold(view, |view, _| read_through(view))
 }
 
 /// An expression that gives what `slot` holds.
-pub fn read(slot: u8) -> Code {
-    reads(1, slot)
+pub fn read(slot: u8) -> Expression {
+    let view = literal(Value::ReadView(slot));
+    let bytes = [vec![READ], view.bytes].concat();
+    Expression { bytes, depth: 1 }
+}
+
+/// A command, well-formed.
+#[derive(Debug, Clone, PartialEq, Eq)]
+pub struct Command {
+    bytes: Vec<u8>,
+    /// How deep commands nest in it, itself being depth 1.
+    depth: usize,
+}
+
+impl Command {
+    /// The bytes of its code.
+    pub fn bytes(&self) -> &[u8] {
+        &self.bytes
+    }
+
+    /// A command with no others inside.
+    fn plain(kind: CommandKind, parts: &[Expression]) -> Command {
+        let parts = parts.iter().flat_map(|part| &part.bytes);
+        let bytes = [kind.byte()].iter().chain(parts).copied().collect();
+        Command { bytes, depth: 1 }
+    }
+
+    /// A command around others; `head` stands between its byte and them.
+    fn around(kind: CommandKind, head: &[u8], inner: &[Command]) -> Result<Command, BuildError> {
+        let deepest = inner.iter().map(|command| command.depth).max();
+        let depth = 1 + deepest.unwrap_or(0);
+        if depth > MOST_DEPTH {
+            return Err(BuildError::Depth(depth));
+        }
+        let inner = inner.iter().flat_map(|command| &command.bytes);
+        let head = [kind.byte()].into_iter().chain(head.iter().copied());
+        let bytes = head.chain(inner.copied()).collect();
+        Ok(Command { bytes, depth })
+    }
 }
 
 /// A command that does nothing.
-pub fn skip() -> Code {
-    vec![Command::Skip.byte()]
+pub fn skip() -> Command {
+    Command::plain(CommandKind::Skip, &[])
 }
 
 /// An assignment to the slot that an expression views.
-pub fn assignment(target: Code, value: Code) -> Code {
-    [vec![Command::Assignment.byte()], target, value].concat()
+pub fn assignment(target: Expression, value: Expression) -> Command {
+    Command::plain(CommandKind::Assignment, &[target, value])
 }
 
 /// An assignment to the slot that a literal names.
-pub fn assign(slot: u8, value: Code) -> Code {
+pub fn assign(slot: u8, value: Expression) -> Command {
     assignment(literal(Value::WriteView(slot)), value)
 }
 
 /// 2 to 255 commands in order.
 ///
-/// # Panics
-/// Where there are more than a byte can count.
-pub fn sequence(commands: &[Code]) -> Code {
-    let count = u8::try_from(commands.len()).expect("a count is one byte");
-    let head = vec![Command::Sequence.byte(), count];
-    [head, commands.concat()].concat()
+/// # Errors
+/// [`BuildError::Commands`] for fewer or more, [`BuildError::Depth`] if they nest
+/// too deep in it.
+pub fn sequence(commands: &[Command]) -> Result<Command, BuildError> {
+    let size = commands.len();
+    let enough = size >= FEWEST_COMMANDS;
+    let count = u8::try_from(size).ok().filter(|_| enough);
+    let count = count.ok_or(BuildError::Commands(size))?;
+    Command::around(CommandKind::Sequence, &[count], commands)
 }
 
 /// One of two commands, by a guard.
-pub fn if_command(guard: Code, then_part: Code, else_part: Code) -> Code {
-    [vec![Command::If.byte()], guard, then_part, else_part].concat()
+///
+/// # Errors
+/// [`BuildError::Depth`] if they nest too deep in it.
+pub fn if_command(
+    guard: Expression,
+    then_part: Command,
+    else_part: Command,
+) -> Result<Command, BuildError> {
+    Command::around(CommandKind::If, guard.bytes(), &[then_part, else_part])
 }
 
 /// A command as long as a guard is true.
-pub fn while_command(guard: Code, body: Code) -> Code {
-    [vec![Command::While.byte()], guard, body].concat()
+///
+/// # Errors
+/// [`BuildError::Depth`] if it nests too deep in it.
+pub fn while_command(guard: Expression, body: Command) -> Result<Command, BuildError> {
+    Command::around(CommandKind::While, guard.bytes(), &[body])
+}
+
+/// What a block's code is: a command that was built here, or bytes from
+/// elsewhere.
+#[derive(Debug, Clone, PartialEq, Eq)]
+pub struct Code(Vec<u8>);
+
+impl Code {
+    /// Any bytes, such as a customer sends. Nothing is known of them; the
+    /// library judges them (9 and 10).
+    pub fn unjudged(bytes: impl Into<Vec<u8>>) -> Code {
+        Code(bytes.into())
+    }
+
+    /// The bytes.
+    pub fn bytes(&self) -> &[u8] {
+        &self.0
+    }
+}
+
+impl From<Command> for Code {
+    fn from(command: Command) -> Code {
+        Code(command.bytes)
+    }
 }

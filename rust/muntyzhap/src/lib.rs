@@ -1,40 +1,62 @@
 //! The proved runner for Rust programs.
 //!
-//! It links the static library that `rt staticlib capi` writes and wraps its
-//! four calls: [`check_store`], [`check_table`], [`check_programme`] and
-//! [`run`]. A refusal is a [`Refusal`], which says in words what was refused
-//! and, where the document gives one, its place.
+//! It links the static library that `rt staticlib capi` writes (without it a
+//! program can be checked, but not built) and wraps its four calls:
+//! [`check_store`], [`check_table`], [`check_programme`] and [`run`]. A refusal is
+//! a [`Refusal`], which says in words what was refused and, where the document
+//! gives one, its place.
 //!
 //! Every length is right by the time the library sees it: a slice is passed
 //! with its own length, and whether that is what a sheet's sizes or the
 //! output's slots ask for, the library judges itself (1, 6, 12).
 //!
 //! ```
-//! use muntyzhap::{run, sheet::output_bytes, Rule};
+//! use muntyzhap::code::{assign, literal, read};
+//! use muntyzhap::sheet::{output_bytes, programme_sheet, store_sheet, Block, Slot};
+//! use muntyzhap::{run, Rule, Value};
 //!
-//! # use muntyzhap::{code::skip, sheet::{programme_sheet, store_sheet, Block}};
-//! # let (store, programme) = (store_sheet(&[1], &[]), programme_sheet(&[Block::new(0, skip())]));
+//! # fn main() -> Result<(), Box<dyn std::error::Error>> {
+//! // Principal 1, the laboratory, stands above principal 0, its customer.
+//! let (customer, laboratory) = (0, 1);
+//! let slots = [
+//!     Slot::new(customer, Value::Integer(5))?,
+//!     Slot::new(laboratory, Value::Integer(7))?,
+//! ];
+//! let store = store_sheet(&[0b01, 0b11], &slots)?;
+//! let programme = programme_sheet(&[
+//!     Block::new(customer, assign(0, literal(Value::Integer(42))))?,
+//!     Block::endorsed(laboratory, assign(1, read(0)))?,
+//! ])?;
 //! let mut out = vec![0; output_bytes(&store)];
 //! match run(&store, &programme, Rule::FullProvenance, 1000, &mut out) {
 //!     Ok(finished) => println!("{} blocks in {} steps", finished.blocks, finished.steps),
 //!     Err(refusal) => println!("{refusal}"),
 //! }
+//! # assert_eq!(out[Value::BYTES..], Value::Integer(42).to_bytes());
+//! # Ok(())
+//! # }
 //! ```
 //!
 //! [`code`] and [`sheet`] write sheets and read what a run leaves. They are a
-//! convenience and not proved; whatever bytes they make, the library judges.
-//! [`raw`] has the same four calls with the numbers as the library gives them.
+//! convenience and not proved. What no sheet can hold is a [`BuildError`] where
+//! it is made; whatever bytes they make, the library judges. [`raw`] has the same
+//! four calls with the numbers as the library gives them.
 
 #![deny(unsafe_code)]
 #![warn(missing_docs)]
 
+mod build_error;
 pub mod code;
 mod library;
+#[cfg(library_missing)]
+#[doc(hidden)]
+pub mod missing;
 mod refusal;
 mod rule;
 pub mod sheet;
 mod value;
 
+pub use crate::build_error::BuildError;
 pub use crate::refusal::{Place, Refusal, Stop};
 pub use crate::rule::{Rule, MOST_BUDGET};
 pub use crate::value::{Integer, Value};

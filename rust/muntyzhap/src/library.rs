@@ -22,7 +22,7 @@ extern "C" {
         store_length: usize,
         programme: *const u8,
         programme_length: usize,
-        rule: u8,
+        rule: u32,
         budget: u32,
         out: *mut u8,
         out_length: usize,
@@ -101,8 +101,9 @@ pub fn check_programme(sheet: &[u8], n: usize, slots: usize) -> Answer {
     answer
 }
 
-/// One run: its answer, and its output if the answer is 0.
-pub fn run(store: &[u8], programme: &[u8], rule: u8, budget: u32, out: &mut [u8]) -> Answer {
+/// One run: its answer, and its output if the answer is 0. A rule number that
+/// is not 0, 1, 2, 3 or 255 is refused by 11.
+pub fn run(store: &[u8], programme: &[u8], rule: u32, budget: u32, out: &mut [u8]) -> Answer {
     let mut answer = Answer::UNWRITTEN;
     answer.number = unsafe {
         muntyzhap_run(

@@ -33,12 +33,12 @@ impl Rule {
     ];
 
     /// The number of this rule set.
-    pub fn number(self) -> u8 {
-        self as u8
+    pub fn number(self) -> u32 {
+        self as u32
     }
 
     /// The rule set of this number, if there is one.
-    pub fn from_number(number: u8) -> Option<Rule> {
+    pub fn from_number(number: u32) -> Option<Rule> {
         Rule::ALL.into_iter().find(|rule| rule.number() == number)
     }
 }

@@ -1,6 +1,14 @@
 //! Store sheets and programme sheets, and what a run leaves.
+//!
+//! A sheet is built only of parts that it can hold, so that no part is taken for
+//! another. Whether an order table is good (3), and what a programme needs of
+//! its store, its regions' principals (8) and its views' slots (9), the library
+//! judges.
 
-use crate::code::{Code, Command};
+use std::ops::RangeInclusive;
+
+use crate::build_error::BuildError;
+use crate::code::{Code, CommandKind};
 use crate::refusal::Place;
 use crate::value::Value;
 
@@ -18,26 +26,97 @@ const SIZES: usize = 3;
 const MASK_BYTES: usize = size_of::<u32>();
 const LENGTH_BYTES: usize = 2;
 
+/// Whether this is the number of a principal that some order table has.
+fn is_principal(number: u8) -> bool {
+    usize::from(number) < MOST_PRINCIPALS
+}
+
 /// A slot: who owns it and what it holds.
 #[derive(Debug, Clone, Copy, PartialEq, Eq)]
 pub struct Slot {
+    owner: u8,
+    value: Value,
+}
+
+impl Slot {
+    /// A slot of this principal.
+    ///
+    /// # Errors
+    /// [`BuildError::Owner`] if that is no principal's number.
+    pub fn new(owner: u8, value: Value) -> Result<Slot, BuildError> {
+        match is_principal(owner) {
+            true => Ok(Slot { owner, value }),
+            false => Err(BuildError::Owner(owner)),
+        }
+    }
+
     /// The number of a principal.
-    pub owner: u8,
+    pub fn owner(&self) -> u8 {
+        self.owner
+    }
+
     /// What it holds.
-    pub value: Value,
+    pub fn value(&self) -> Value {
+        self.value
+    }
 }
 
 /// A store sheet. Bit j of mask i is set when principal j stands at or below i.
 ///
-/// # Panics
-/// Where there are more masks or slots than the sheet's sizes can count.
-pub fn store_sheet(masks: &[u32], slots: &[Slot]) -> Vec<u8> {
-    let mut sheet = vec![one_byte(masks.len())];
-    sheet.extend(two_bytes(slots.len()));
+/// # Errors
+/// For no masks or too many, a mask's bit for a principal that there is not, too
+/// many slots, an owner that there is not, or a view of a slot that there is not.
+/// Whether the order table is good, the library judges.
+pub fn store_sheet(masks: &[u32], slots: &[Slot]) -> Result<Vec<u8>, BuildError> {
+    let principals = 1..=MOST_PRINCIPALS;
+    let mut sheet = vec![one_byte(masks.len(), principals, BuildError::Principals)?];
+    sheet.extend(two_bytes(slots.len(), MOST_SLOTS, BuildError::Slots)?);
+    for (principal, mask) in masks.iter().enumerate() {
+        judge_mask(principal, *mask, masks.len())?;
+    }
+    for (number, slot) in slots.iter().enumerate() {
+        judge_slot(number, slot, masks.len(), slots.len())?;
+    }
     sheet.extend(masks.iter().flat_map(|mask| mask.to_le_bytes()));
     sheet.extend(slots.iter().map(|slot| slot.owner));
     sheet.extend(slots.iter().flat_map(|slot| slot.value.to_bytes()));
-    sheet
+    Ok(sheet)
+}
+
+fn judge_mask(principal: usize, mask: u32, principals: usize) -> Result<(), BuildError> {
+    match mask.checked_ilog2() {
+        Some(bit) if bit as usize >= principals => Err(BuildError::Mask {
+            principal,
+            bit,
+            principals,
+        }),
+        _ => Ok(()),
+    }
+}
+
+fn judge_slot(
+    number: usize,
+    slot: &Slot,
+    principals: usize,
+    slots: usize,
+) -> Result<(), BuildError> {
+    if usize::from(slot.owner) >= principals {
+        return Err(BuildError::OwnerNotInTable {
+            slot: number,
+            owner: slot.owner,
+            principals,
+        });
+    }
+    match slot.value {
+        Value::ReadView(viewed) | Value::WriteView(viewed) if usize::from(viewed) >= slots => {
+            Err(BuildError::View {
+                slot: number,
+                viewed,
+                slots,
+            })
+        }
+        _ => Ok(()),
+    }
 }
 
 /// The bytes that the end store of this sheet takes. 0 for a sheet that can't
@@ -49,7 +128,7 @@ pub fn output_bytes(store: &[u8]) -> usize {
 
 /// The slots of an end store: their owners from the store sheet, their values
 /// from what a finished run wrote. None where the sheet has no owner for each
-/// slot, the output isn't of its length, or a value is ill-formed.
+/// slot, the output isn't of its length, or an owner or a value is ill-formed.
 pub fn end_store(store: &[u8], out: &[u8]) -> Option<Vec<Slot>> {
     let (principals, slots) = sizes(store)?;
     let first = SIZES + principals * MASK_BYTES;
@@ -60,37 +139,75 @@ pub fn end_store(store: &[u8], out: &[u8]) -> Option<Vec<Slot>> {
     let values = out.chunks_exact(Value::BYTES).map(Value::from_bytes);
     let slots = owners.iter().zip(values);
     slots
-        .map(|(owner, value)| {
-            value.map(|value| Slot {
-                value,
-                owner: *owner,
-            })
-        })
+        .map(|(owner, value)| Slot::new(*owner, value?).ok())
         .collect()
 }
 
 /// A block: for whom it runs, and its one command.
+///
+/// It is made by its constructors alone, so a block that was not endorsed never
+/// runs endorsed:
+///
+/// ```compile_fail,E0451
+/// # use muntyzhap::{code::skip, sheet::Block};
+/// let block = Block { region: 0x81, endorsed: false, code: skip().into() };
+/// ```
 #[derive(Debug, Clone, PartialEq, Eq)]
 pub struct Block {
-    /// The number of a principal.
-    pub region: u8,
-    /// Whether labels are not judged in this block.
-    pub endorsed: bool,
-    /// The bytes of its command.
-    pub code: Code,
+    region: u8,
+    endorsed: bool,
+    code: Code,
 }
 
 impl Block {
     /// What an endorsed block's region byte has besides its principal.
     pub const ENDORSED: u8 = 0x80;
 
-    /// A block that is not endorsed.
-    pub fn new(region: u8, code: Code) -> Block {
-        Block {
-            region,
-            endorsed: false,
-            code,
+    /// A block that runs for this principal and is not endorsed. Its code is a
+    /// [`Command`](crate::code::Command), or bytes as [`Code::unjudged`].
+    ///
+    /// # Errors
+    /// [`BuildError::Region`] if that is no principal's number,
+    /// [`BuildError::CodeBytes`] for more code than a programme has.
+    pub fn new(region: u8, code: impl Into<Code>) -> Result<Block, BuildError> {
+        Block::made(region, false, code.into())
+    }
+
+    /// The same, but endorsed: rules 2 and 3 judge no label in it, and the
+    /// isolation of rule 3 holds of no programme with such a block outside the
+    /// adversary's reach.
+    ///
+    /// # Errors
+    /// As of [`Block::new`].
+    pub fn endorsed(region: u8, code: impl Into<Code>) -> Result<Block, BuildError> {
+        Block::made(region, true, code.into())
+    }
+
+    fn made(region: u8, endorsed: bool, code: Code) -> Result<Block, BuildError> {
+        if !is_principal(region) {
+            return Err(BuildError::Region(region));
         }
+        code_bytes(code.bytes())?;
+        Ok(Block {
+            region,
+            endorsed,
+            code,
+        })
+    }
+
+    /// The number of the principal that it runs for.
+    pub fn region(&self) -> u8 {
+        self.region
+    }
+
+    /// Whether labels are not judged in this block.
+    pub fn is_endorsed(&self) -> bool {
+        self.endorsed
+    }
+
+    /// The bytes of its command.
+    pub fn code(&self) -> &[u8] {
+        self.code.bytes()
     }
 
     fn region_byte(&self) -> u8 {
@@ -103,21 +220,49 @@ impl Block {
 
 /// A programme sheet.
 ///
-/// # Panics
-/// Where there are more blocks or code bytes than the sheet's sizes can count.
-pub fn programme_sheet(blocks: &[Block]) -> Vec<u8> {
-    let lengths: Vec<usize> = blocks.iter().map(|block| block.code.len()).collect();
-    let mut sheet = vec![one_byte(blocks.len())];
-    sheet.extend(two_bytes(lengths.iter().sum()));
+/// # Errors
+/// [`BuildError::Blocks`] or [`BuildError::CodeBytes`] for more than a programme
+/// has.
+pub fn programme_sheet(blocks: &[Block]) -> Result<Vec<u8>, BuildError> {
+    let mut sheet = vec![one_byte(blocks.len(), 0..=MOST_BLOCKS, BuildError::Blocks)?];
+    let code: Vec<u8> = blocks.iter().flat_map(Block::code).copied().collect();
+    sheet.extend(code_bytes(&code)?);
     sheet.extend(blocks.iter().map(Block::region_byte));
-    sheet.extend(lengths.into_iter().flat_map(two_bytes));
-    sheet.extend(blocks.iter().flat_map(|block| &block.code));
-    sheet
+    for block in blocks {
+        sheet.extend(code_bytes(block.code())?);
+    }
+    sheet.extend(code);
+    Ok(sheet)
+}
+
+/// How many bytes of code there are, in two bytes.
+fn code_bytes(code: &[u8]) -> Result<[u8; LENGTH_BYTES], BuildError> {
+    two_bytes(code.len(), MOST_CODE, BuildError::CodeBytes)
+}
+
+/// A size in one byte, if it is within its limits.
+fn one_byte(
+    size: usize,
+    limits: RangeInclusive<usize>,
+    error: fn(usize) -> BuildError,
+) -> Result<u8, BuildError> {
+    let byte = u8::try_from(size).ok().filter(|_| limits.contains(&size));
+    byte.ok_or(error(size))
+}
+
+/// A size in two bytes, the lowest first, if it is not past its limit.
+fn two_bytes(
+    size: usize,
+    most: usize,
+    error: fn(usize) -> BuildError,
+) -> Result<[u8; 2], BuildError> {
+    let number = u16::try_from(size).ok().filter(|_| size <= most);
+    number.map(u16::to_le_bytes).ok_or(error(size))
 }
 
 /// The command whose first byte stands at this place of a programme sheet,
 /// such as the place where a run was stopped.
-pub fn command_at(programme: &[u8], place: Place) -> Option<Command> {
+pub fn command_at(programme: &[u8], place: Place) -> Option<CommandKind> {
     let (blocks, _) = sizes(programme)?;
     let lengths = programme.get(SIZES + blocks..)?.chunks_exact(LENGTH_BYTES);
     let mut lengths = lengths.take(blocks).map(number);
@@ -125,7 +270,7 @@ pub fn command_at(programme: &[u8], place: Place) -> Option<Command> {
     let length = lengths.next()?;
     let start = SIZES + blocks + blocks * LENGTH_BYTES + before;
     let code = programme.get(start..start + length)?;
-    Command::from_byte(*code.get(place.offset)?)
+    CommandKind::from_byte(*code.get(place.offset)?)
 }
 
 /// The two sizes that a sheet starts with, if it can hold them.
@@ -139,13 +284,4 @@ fn sizes(sheet: &[u8]) -> Option<(usize, usize)> {
 fn number(bytes: &[u8]) -> usize {
     let bytes = bytes.iter().rev();
     bytes.fold(0, |higher, byte| higher << 8 | usize::from(*byte))
-}
-
-fn one_byte(size: usize) -> u8 {
-    u8::try_from(size).expect("a size of one byte")
-}
-
-fn two_bytes(size: usize) -> [u8; 2] {
-    let size = u16::try_from(size).expect("a size of two bytes");
-    size.to_le_bytes()
 }

@@ -1,62 +1,31 @@
 //! The wrapped calls, by what documents 01 and 02 say of them.
 
+mod parts;
+
 use muntyzhap::code::{
-    assign, assignment, if_command, literal, read, reads, sequence, skip, while_command, Code,
-    Command, MOST_DEPTH, MOST_READS,
+    assign, assignment, if_command, literal, read, sequence, skip, while_command, Code, CommandKind,
 };
-use muntyzhap::sheet::{
-    command_at, end_store, output_bytes, programme_sheet, store_sheet, Block, Slot, MOST_BLOCKS,
-    MOST_CODE, MOST_PRINCIPALS, MOST_SLOTS,
-};
+use muntyzhap::sheet::{command_at, end_store, output_bytes, Block, MOST_BLOCKS};
 use muntyzhap::{
     check_programme, check_store, check_table, raw, run, Finished, Integer, Place, Refusal, Rule,
     Stop, Value, MOST_BUDGET,
 };
+use parts::*;
 
-const LOW: u8 = 0;
-const HIGH: u8 = 1;
-/// Principal 1 stands above principal 0.
-const MASKS: [u32; 2] = [0b01, 0b11];
 const UNTOUCHED: u8 = 0xA5;
 /// The output's bytes for a store of two slots: "Output is 9 × m bytes."
 const OUTPUT: usize = 2 * Value::BYTES;
 
-/// One slot of each principal, with these integers.
-fn slots_of(integers: [Integer; 2]) -> [Slot; 2] {
-    let slot = |owner, integer| Slot {
-        owner,
-        value: Value::Integer(integer),
-    };
-    [slot(LOW, integers[0]), slot(HIGH, integers[1])]
-}
-
-/// Document 01's store: one slot of each principal, with the integers 5 and 7.
-fn slots() -> [Slot; 2] {
-    slots_of([5, 7])
-}
-
 fn store() -> Vec<u8> {
-    store_sheet(&MASKS, &slots())
-}
-
-fn integer(integer: Integer) -> Code {
-    literal(Value::Integer(integer))
-}
-
-fn truth(truth: bool) -> Code {
-    literal(Value::Truth(truth))
-}
-
-fn programme_of(region: u8, code: Code) -> Vec<u8> {
-    programme_sheet(&[Block::new(region, code)])
+    store_of(&MASKS, &slots())
 }
 
 /// Slot 0 := an integer by the low principal, then slot 1 := slot 0 by the high
 /// one.
 fn copying(copied: Integer) -> Vec<u8> {
-    programme_sheet(&[
-        Block::new(LOW, assign(0, integer(copied))),
-        Block::new(HIGH, assign(1, read(0))),
+    programme_of(&[
+        block(LOW, assign(0, integer(copied))),
+        block(HIGH, assign(1, read(0))),
     ])
 }
 
@@ -87,11 +56,8 @@ fn stop(block: usize, offset: usize, steps: u32) -> Stop {
 #[test]
 fn the_written_sheets_are_those_of_the_repository_s_example() {
     let example = include_bytes!("../../../examples/two-blocks.bin");
-    let head = [
-        [Rule::AccessControl.number()].as_slice(),
-        &10_u32.to_le_bytes(),
-    ]
-    .concat();
+    let rule = u8::try_from(Rule::AccessControl.number()).expect("a rule byte");
+    let head = [[rule].as_slice(), &10_u32.to_le_bytes()].concat();
     assert_eq!([head, store(), two_blocks()].concat(), example);
 }
 
@@ -104,11 +70,8 @@ fn a_finished_run_leaves_its_end_store() {
         steps: 2,
     };
     assert_eq!(finished, Ok(expected));
-    let end = slots().map(|slot| Slot {
-        value: Value::Integer(42),
-        ..slot
-    });
-    assert_eq!(end_store(&store(), &out), Some(end.to_vec()));
+    let end = slots_of([42, 42]).to_vec();
+    assert_eq!(end_store(&store(), &out), Some(end));
 }
 
 /// "Integers are signed 64-bit": the ends, those of 32 bits and their
@@ -135,8 +98,8 @@ const TELLING: [Integer; 14] = [
 fn every_integer_goes_through_a_run_unchanged() {
     for telling in TELLING {
         let bytes = [&[Value::INTEGER], telling.to_le_bytes().as_slice()].concat();
-        let (opening, copied) = (store_sheet(&MASKS, &slots_of([telling; 2])), store());
-        let (nothing, copying) = (programme_sheet(&[]), copying(telling));
+        let (opening, copied) = (store_of(&MASKS, &slots_of([telling; 2])), store());
+        let (nothing, copying) = (programme_of(&[]), copying(telling));
         for (store, programme) in [(opening, nothing), (copied, copying)] {
             let mut out = [UNTOUCHED; OUTPUT];
             let finished = run(&store, &programme, Rule::AccessControl, 2, &mut out);
@@ -175,11 +138,12 @@ fn every_byte_of_a_payload_is_judged() {
             sheet[start..].copy_from_slice(&bytes);
             assert_eq!(check_store(&sheet), Err(Refusal::Value), "{bytes:?}");
 
-            let mut code = assign(0, literal(value));
+            let mut code = assign(0, literal(value)).bytes().to_vec();
             let offset = code.len() - bytes.len();
             code[offset..].copy_from_slice(&bytes);
             let refused = Refusal::IllFormedCode(Place { block: 0, offset });
-            let judged = check_programme(&programme_of(LOW, code), 2, 2);
+            let altered = block(LOW, Code::unjudged(code));
+            let judged = check_programme(&programme_of(&[altered]), 2, 2);
             assert_eq!(judged, Err(refused), "{bytes:?}");
         }
     }
@@ -195,31 +159,33 @@ fn an_end_store_is_read_only_where_every_length_is_right() {
     assert_eq!(end_store(&store[..2], &[]), None, "a size is missing");
     let ill_formed = [9; OUTPUT];
     assert_eq!(end_store(&store, &ill_formed), None);
+    let mut stranger = store.clone();
+    stranger[3 + 4 * 2] = 32;
+    assert_eq!(end_store(&stranger, &good), None, "no principal's number");
 }
 
 #[test]
 fn store_sheets_are_judged() {
-    let owned_by = |owner| Slot {
-        owner,
-        ..slots()[0]
-    };
-    let viewing = |slot| Slot {
-        value: Value::ReadView(slot),
-        ..slots()[0]
-    };
     let too_long = [store(), vec![0]].concat();
+    // The first owner and the last value's kind.
+    let with = |place, byte| {
+        let mut sheet = store();
+        sheet[place] = byte;
+        sheet
+    };
+    let (owner, kind) = (3 + 4 * 2, store().len() - Value::BYTES);
     let cases = [
         (store(), Ok(())),
         (too_long, Err(Refusal::StoreLength)),
         (vec![2, 2], Err(Refusal::StoreLength)),
         (vec![0, 0, 0], Err(Refusal::StoreLimits)),
-        (store_sheet(&[1, 2], &[]), Err(Refusal::OrderTable)),
-        (store_sheet(&MASKS, &[owned_by(2)]), Err(Refusal::Owner)),
-        (store_sheet(&MASKS, &[viewing(1)]), Err(Refusal::Value)),
+        (store_of(&[1, 2], &[]), Err(Refusal::OrderTable)),
+        (with(owner, 2), Err(Refusal::Owner)),
+        (with(kind, 4), Err(Refusal::Value)),
     ];
     for (sheet, expected) in cases {
         assert_eq!(check_store(&sheet), expected, "{sheet:?}");
-        let run = answer(&sheet, &programme_sheet(&[]), Rule::FullProvenance, 0);
+        let run = answer(&sheet, &programme_of(&[]), Rule::FullProvenance, 0);
         assert_eq!(run.map(|_| ()), expected, "{sheet:?}");
     }
 }
@@ -236,25 +202,29 @@ fn table_sheets_are_judged() {
 #[test]
 fn programme_sheets_are_judged() {
     let place = |block, offset| Place { block, offset };
-    let skips = |second: Code| programme_sheet(&[Block::new(LOW, skip()), Block::new(LOW, second)]);
-    let many_reads = assign(0, reads(MOST_READS + 1, 0));
-    let ninth = assign(0, Vec::new()).len() + MOST_READS;
-    let too_many = vec![Block::new(LOW, skip()); MOST_BLOCKS + 1];
-    let sum = [&[1, 2, 0, 0, 1, 0], skip().as_slice(), &skip()].concat();
+    let bytes = |second: &[u8]| {
+        let second = block(LOW, Code::unjudged(second));
+        programme_of(&[block(LOW, skip()), second])
+    };
+    let (blocks, code) = (MOST_BLOCKS as u8 + 1, [0x20]);
     let cases = [
-        (skips(skip()), Ok(())),
+        (bytes(skip().bytes()), Ok(())),
         (vec![0, 0], Err(Refusal::ProgrammeLength)),
-        (sum, Err(Refusal::ProgrammeLength)),
-        (programme_sheet(&too_many), Err(Refusal::ProgrammeLimits)),
-        (programme_of(2, skip()), Err(Refusal::Region)),
-        (skips(vec![0x25]), Err(Refusal::IllFormedCode(place(1, 0)))),
         (
-            skips([skip(), skip()].concat()),
+            vec![1, 2, 0, 0, 1, 0, 0x20, 0x20],
+            Err(Refusal::ProgrammeLength),
+        ),
+        (vec![blocks, 0, 0], Err(Refusal::ProgrammeLimits)),
+        (programme_of(&[block(2, skip())]), Err(Refusal::Region)),
+        (bytes(&[0x25]), Err(Refusal::IllFormedCode(place(1, 0)))),
+        (bytes(&[]), Err(Refusal::IllFormedCode(place(1, 0)))),
+        (
+            bytes(&code.repeat(2)),
             Err(Refusal::IllFormedCode(place(1, 1))),
         ),
         (
-            skips(many_reads),
-            Err(Refusal::NestedTooDeep(place(1, ninth))),
+            bytes(&[&[0x24], [0x11].repeat(9).as_slice()].concat()),
+            Err(Refusal::NestedTooDeep(place(1, 9))),
         ),
     ];
     for (sheet, expected) in cases {
@@ -280,9 +250,12 @@ fn arguments_are_judged() {
 
 #[test]
 fn every_rule_is_known_and_no_other_number() {
-    for number in 0..=u8::MAX {
+    // The lowest byte of each of these is the number of a rule; the last is what
+    // an int of -1 becomes.
+    let wide = [1 << 16, 3 << 24 | 3, -1_i32 as u32];
+    for number in (0..=0x1FF).chain(wide) {
         let mut out = [UNTOUCHED; OUTPUT];
-        let answer = raw::run(&store(), &programme_sheet(&[]), number, 0, &mut out);
+        let answer = raw::run(&store(), &programme_of(&[]), number, 0, &mut out);
         let known = Rule::from_number(number).is_some();
         assert_eq!(answer.number, if known { 0 } else { 11 }, "rule {number}");
     }
@@ -290,13 +263,17 @@ fn every_rule_is_known_and_no_other_number() {
 
 #[test]
 fn a_step_that_is_forbidden_is_refused_at_its_place() {
-    let wrong_kind = programme_of(HIGH, if_command(integer(1), skip(), skip()));
+    let no_guard = built(if_command(integer(1), skip(), skip()));
     let expected = Err(Refusal::WrongKind(stop(0, 0, 0)));
-    assert_eq!(ran(&wrong_kind, Rule::AccessControl), expected);
+    assert_eq!(
+        ran(&programme_by(HIGH, no_guard), Rule::AccessControl),
+        expected
+    );
 
     let (own, other) = (assign(0, integer(1)), assign(1, integer(9)));
-    let second = sequence(&[]).len() + own.len();
-    let low = programme_of(LOW, sequence(&[own, other]));
+    // After 22 and a count.
+    let second = 2 + own.bytes().len();
+    let low = programme_by(LOW, built(sequence(&[own, other])));
     let expected = Err(Refusal::NoAuthority(stop(0, second, 1)));
     assert_eq!(ran(&low, Rule::AccessControl), expected);
     let expected = Err(Refusal::WriteViewNotAllowed(stop(0, second, 1)));
@@ -307,73 +284,46 @@ fn a_step_that_is_forbidden_is_refused_at_its_place() {
     assert_eq!(ran(&two_blocks(), Rule::FullProvenance), expected);
     assert_eq!(ran(&two_blocks(), Rule::House), expected);
 
-    let endless = programme_of(LOW, while_command(truth(true), skip()));
-    let spent = answer(&store(), &endless, Rule::AccessControl, 3);
+    let endless = built(while_command(truth(true), skip()));
+    let spent = answer(
+        &store(),
+        &programme_by(LOW, endless),
+        Rule::AccessControl,
+        3,
+    );
     assert_eq!(spent, Err(Refusal::BudgetSpent(stop(0, 0, 3))));
 }
 
+/// The block that is not endorsed is judged, by the same code.
 #[test]
 fn an_endorsed_block_may_lift_what_it_read() {
-    let mut block = Block::new(HIGH, assign(1, read(0)));
-    block.endorsed = true;
-    let finished = ran(&programme_sheet(&[block]), Rule::FullProvenance);
+    let lift = || assign(1, read(0));
+    let endorsed = built(Block::endorsed(HIGH, lift()));
+    let finished = ran(&programme_of(&[endorsed]), Rule::FullProvenance);
     assert_eq!(finished.map(|finished| finished.steps), Ok(1));
-}
-
-#[test]
-fn what_is_at_a_limit_passes_and_one_more_does_not() {
-    let chain: Vec<u32> = (0..32).map(|last| u32::MAX >> (31 - last)).collect();
-    assert_eq!(chain.len(), MOST_PRINCIPALS);
-    let most_slots = vec![slots()[0]; MOST_SLOTS];
-    assert_eq!(check_store(&store_sheet(&chain, &most_slots)), Ok(()));
-    let more_slots = vec![slots()[0]; MOST_SLOTS + 1];
-    let refused = check_store(&store_sheet(&chain, &more_slots));
-    assert_eq!(refused, Err(Refusal::StoreLimits));
-    let longer_chain = [chain, vec![u32::MAX]].concat();
-    let refused = check_store(&store_sheet(&longer_chain, &[]));
-    assert_eq!(refused, Err(Refusal::StoreLimits));
-
-    let nested = |depth| (1..depth).fold(skip(), |inner, _| while_command(truth(false), inner));
-    let check = |code| check_programme(&programme_of(LOW, code), 2, 2);
-    assert_eq!(check(nested(MOST_DEPTH)), Ok(()));
-    let refused = check(nested(MOST_DEPTH + 1)).map_err(|refusal| refusal.number());
-    assert_eq!(refused, Err(10));
-    assert_eq!(check(assign(0, reads(MOST_READS, 0))), Ok(()));
-
-    let full = vec![Block::new(LOW, filled(MOST_CODE / MOST_BLOCKS)); MOST_BLOCKS];
-    assert_eq!(check_programme(&programme_sheet(&full), 2, 2), Ok(()));
-    let refused = check(vec![0; MOST_CODE + 1]);
-    assert_eq!(refused, Err(Refusal::ProgrammeLimits));
-}
-
-/// One command of so many bytes.
-fn filled(bytes: usize) -> Code {
-    sequence(&vec![skip(); bytes - 2])
+    let judged = ran(&programme_by(HIGH, lift()), Rule::FullProvenance);
+    assert_eq!(judged, Err(Refusal::ProvenanceTooLow(stop(0, 0, 0))));
 }
 
 #[test]
 fn the_command_at_a_place_is_named() {
     let through = assignment(read(0), integer(1));
-    let if_place = sequence(&[skip()]).len();
-    let then_place = if_place + if_command(truth(true), Vec::new(), Vec::new()).len();
-    let whole = sequence(&[skip(), if_command(truth(true), through, skip())]);
-    let sheet = programme_sheet(&[Block::new(LOW, skip()), Block::new(HIGH, whole)]);
+    // After 22, a count and a skip; and after 23 and a literal of ten bytes.
+    let (if_place, then_place) = (3, 3 + 1 + 10);
+    let choice = built(if_command(truth(true), through, skip()));
+    let whole = built(sequence(&[skip(), choice]));
+    let sheet = programme_of(&[block(LOW, skip()), block(HIGH, whole)]);
     let at = |block, offset| command_at(&sheet, Place { block, offset });
-    assert_eq!(at(0, 0), Some(Command::Skip));
+    assert_eq!(at(0, 0), Some(CommandKind::Skip));
     assert_eq!(at(0, 1), None, "the next block's byte");
-    assert_eq!(at(1, 0), Some(Command::Sequence));
+    assert_eq!(at(1, 0), Some(CommandKind::Sequence));
     assert_eq!(at(1, 1), None, "a count");
-    assert_eq!(at(1, if_place), Some(Command::If));
-    assert_eq!(at(1, then_place), Some(Command::Assignment));
+    assert_eq!(at(1, if_place), Some(CommandKind::If));
+    assert_eq!(at(1, then_place), Some(CommandKind::Assignment));
     assert_eq!(at(2, 0), None, "past the last block");
-    assert_eq!(
-        command_at(
-            &[2, 0],
-            Place {
-                block: 0,
-                offset: 0
-            }
-        ),
-        None
-    );
+    let first = Place {
+        block: 0,
+        offset: 0,
+    };
+    assert_eq!(command_at(&[2, 0], first), None);
 }

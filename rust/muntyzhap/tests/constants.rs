@@ -3,7 +3,7 @@
 
 use std::collections::BTreeMap;
 
-use muntyzhap::code::{Command, LITERAL, MOST_DEPTH, MOST_READS, READ};
+use muntyzhap::code::{CommandKind, LITERAL, MOST_DEPTH, MOST_READS, READ};
 use muntyzhap::sheet::{Block, MOST_BLOCKS, MOST_CODE, MOST_PRINCIPALS, MOST_SLOTS};
 use muntyzhap::{Place, Refusal, Rule, Stop, Value, MOST_BUDGET};
 
@@ -103,11 +103,11 @@ fn bytes() -> Vec<(&'static str, u64)> {
         ("ENDORSED", Block::ENDORSED),
         ("LITERAL", LITERAL),
         ("READ", READ),
-        ("SKIP", Command::Skip.byte()),
-        ("ASSIGNMENT", Command::Assignment.byte()),
-        ("SEQUENCE", Command::Sequence.byte()),
-        ("IF", Command::If.byte()),
-        ("WHILE", Command::While.byte()),
+        ("SKIP", CommandKind::Skip.byte()),
+        ("ASSIGNMENT", CommandKind::Assignment.byte()),
+        ("SEQUENCE", CommandKind::Sequence.byte()),
+        ("IF", CommandKind::If.byte()),
+        ("WHILE", CommandKind::While.byte()),
     ];
     bytes.map(|(name, byte)| (name, byte.into())).to_vec()
 }

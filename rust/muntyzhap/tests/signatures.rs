@@ -34,7 +34,7 @@ fn the_calls_are_read_whole() {
                  offset *mut usize";
     assert_eq!(parameters(&functions[0]), check);
     let run = "store *const u8, store_length usize, programme *const u8, programme_length usize, \
-               rule u8, budget u32, out *mut u8, out_length usize, block *mut usize, \
+               rule u32, budget u32, out *mut u8, out_length usize, block *mut usize, \
                offset *mut usize, steps *mut u32";
     assert_eq!(parameters(&functions[3]), run);
     assert!(functions.iter().all(|one| one.result == "u32"));
@@ -58,7 +58,10 @@ fn a_changed_definition_is_seen() {
         ("budget: u32", "budget: u64"),
         ("store: &[u8]", "store: &mut [u8]"),
         ("block: &mut usize", "block: usize"),
-        ("rule: u8,\n    budget: u32,", "budget: u32,\n    rule: u8,"),
+        (
+            "rule: u32,\n    budget: u32,",
+            "budget: u32,\n    rule: u32,",
+        ),
         ("n: usize", "principals: usize"),
         ("    steps: &mut u32,\n", ""),
         (") -> u32", ") -> u64"),

@@ -1,10 +1,11 @@
 //! The caller's arguments: rule and budget (11), and the output's length (12).
 
 use crate::case::{case, Case, Draft};
-use crate::common::*;
+use sheets::*;
 
 pub fn cases() -> Vec<Case> {
     let mut cases = rules();
+    cases.extend(first_of_all());
     cases.extend(default_rule());
     cases.extend(budgets());
     cases.extend(outputs());
@@ -15,22 +16,34 @@ const KNOWN: &str = "11 rule not 0, 1, 2, 3 or 255, or budget above 1,000,000";
 
 /// Every known rule number runs; others are refused ahead of all else.
 fn rules() -> Vec<Case> {
-    let own_slot = |rule: u8| {
+    let own_slot = |rule: u32| {
         case(format!("rule {rule}"), KNOWN)
             .block(0, set_integer(0, 42))
             .rule(rule)
     };
     let known = RULES.map(|rule| own_slot(rule).finishes(1, &[integer(42), integer(7)]));
-    let unknown = [4, 128, 254].map(|rule| own_slot(rule).refused_early(11));
-    let mut cases: Vec<Case> = known.into_iter().chain(unknown).collect();
-    cases.push(
-        case("rule before sheets", "Order: 11; store sizes present (1)")
+    let unknown = [4, 5, 127, 128, 253, 254].map(|rule| own_slot(rule).refused_early(11));
+    // The lowest byte of each is the number of a rule.
+    let wide = [256, 257, 258, 259, 511, 1 << 16, 3 << 24 | 3, u32::MAX];
+    let wide = wide.map(|rule| own_slot(rule).refused_early(11));
+    known.into_iter().chain(unknown).chain(wide).collect()
+}
+
+/// With sheets of no bytes, and an output that is too long for them.
+fn first_of_all() -> Vec<Case> {
+    let order = |name| {
+        case(name, "Order: 11; store sizes present (1)")
             .store(vec![])
             .programme(vec![])
-            .rule(4)
+            .output(1)
+    };
+    vec![
+        order("rule before sheets").rule(4).refused_early(11),
+        order("budget before sheets")
+            .budget(1_000_001)
             .refused_early(11),
-    );
-    cases
+        order("sheets before output").refused_early(1),
+    ]
 }
 
 /// "Rule 255 is to mean rule 3": what sets rule 3 apart from 0, 1 and 2, under
@@ -99,6 +112,9 @@ fn outputs() -> Vec<Case> {
         lent("output one byte short", full - 1).refused_early(12),
         lent("output one byte long", full + 1).refused_early(12),
         lent("output of no bytes", 0).refused_early(12),
+        lent("output of one byte", 1).refused_early(12),
+        lent("output of one slot", OUTPUT_SLOT).refused_early(12),
+        lent("output of 256 slots", 256 * OUTPUT_SLOT).refused_early(12),
         empty(lent("output for no slots", 0)).finishes(0, &[]),
         empty(lent("output of a byte for no slots", 1)).refused_early(12),
         case("code before output", bad_code)
@@ -108,6 +124,11 @@ fn outputs() -> Vec<Case> {
         case("output before the run", bad_code)
             .block(0, set_integer(1, 9))
             .output(0)
+            .refused_early(12),
+        case("output before the budget is spent", bad_code)
+            .programme(example_programme([0, 1]))
+            .budget(0)
+            .output(1)
             .refused_early(12),
     ]
 }

@@ -1,8 +1,7 @@
 //! A case: a call of the runner, and the answer that documents 01 and 02 give
 //! it, worked by hand.
 
-use crate::common::*;
-use second_runner::Answer;
+use sheets::*;
 
 pub struct Case {
     pub name: String,
@@ -15,6 +14,15 @@ pub struct Case {
     pub expected: Expected,
 }
 
+/// "Each answer is number, block, offset, steps."
+#[derive(Debug, Clone, Copy, PartialEq, Eq)]
+pub struct Answer {
+    pub number: u32,
+    pub block: u32,
+    pub offset: u32,
+    pub steps: u32,
+}
+
 /// How a call ends.
 #[derive(Clone)]
 pub struct Expected {
@@ -22,6 +30,15 @@ pub struct Expected {
     /// The end store of a finished run; a refused one leaves the output as it
     /// was.
     pub end: Option<Bytes>,
+}
+
+fn answer_of(number: u32, block: u32, offset: usize, steps: u32) -> Answer {
+    Answer {
+        number,
+        block,
+        offset: u32::try_from(offset).expect("an offset in a block"),
+        steps,
+    }
 }
 
 /// A run of so many blocks finishes in so many steps with these slots.
@@ -50,7 +67,7 @@ pub struct Draft {
     says: &'static str,
     store: Bytes,
     programme: Bytes,
-    rule: u8,
+    rule: u32,
     budget: u32,
     output: Option<usize>,
 }
@@ -92,7 +109,7 @@ impl Draft {
         self.blocks(&[(region, code)])
     }
 
-    pub fn rule(mut self, rule: u8) -> Draft {
+    pub fn rule(mut self, rule: u32) -> Draft {
         self.rule = rule;
         self
     }
@@ -124,21 +141,13 @@ impl Draft {
     }
 
     pub fn ends(self, expected: Expected) -> Case {
-        let output = self.output.unwrap_or(OUTPUT_SLOT * slots_said(&self.store));
+        let call = call(&self.store, &self.programme, self.rule).budget(self.budget);
         Case {
             name: self.name,
             says: self.says,
-            call: call(&self.store, &self.programme, self.rule).budget(self.budget),
-            output,
+            output: self.output.unwrap_or(call.output_bytes()),
+            call,
             expected,
         }
-    }
-}
-
-/// The number of slots that a store sheet says, good or not.
-fn slots_said(sheet: &[u8]) -> usize {
-    match sheet {
-        [_, low, high, ..] => usize::from(u16::from_le_bytes([*low, *high])),
-        _ => 0,
     }
 }

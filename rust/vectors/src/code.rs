@@ -1,58 +1,71 @@
-//! Code that is ill-formed (9) or nested too deep (10), and where.
+//! Code that is ill-formed (9), and where.
 
 use crate::case::{case, Case};
-use crate::common::*;
+use sheets::*;
 
 pub fn cases() -> Vec<Case> {
-    let mut cases = unknown_bytes();
+    let mut cases = unknown_commands();
+    cases.extend(unknown_expressions());
     cases.extend(bad_counts());
     cases.extend(early_ends());
+    cases.extend(cut_blocks());
     cases.extend(left_over());
     cases.extend(bad_literals());
-    cases.extend(too_deep());
-    cases.extend(too_many_reads());
-    cases.extend(byte_order());
+    cases.extend(cut_payloads());
     cases
 }
 
 /// One block of region 0, refused ahead of the run.
-fn block(name: &str, says: &'static str, code: Bytes, number: u32, offset: usize) -> Case {
-    case(name, says)
-        .block(0, code)
-        .refused(number, 0, offset, 0)
+fn ill_formed(name: impl Into<String>, says: &'static str, code: Bytes, offset: usize) -> Case {
+    case(name, says).block(0, code).refused(9, 0, offset, 0)
 }
 
-fn target() -> Bytes {
-    literal(write_view(0))
+const UNKNOWN: &str = "An unknown byte or bad count is placed at that byte";
+
+/// Next to the known ones, the known ones with their highest bit set, and bytes
+/// that start an expression.
+fn unknown_commands() -> Vec<Case> {
+    let bytes = [0x00, 0x10, 0x11, 0x1F, 0x25, 0x7F, 0xA0, 0xA4, 0xFF];
+    let alone = bytes.map(|byte| {
+        let name = format!("code {byte:02X}");
+        ill_formed(name, UNKNOWN, vec![byte], 0)
+    });
+    let second = bytes.map(|byte| {
+        let name = format!("code {byte:02X} in a sequence");
+        ill_formed(name, UNKNOWN, vec![0x22, 2, 0x20, byte], 3)
+    });
+    alone.into_iter().chain(second).collect()
 }
 
-fn unknown_bytes() -> Vec<Case> {
-    let at = |name, code, offset| {
-        let says = "An unknown byte or bad count is placed at that byte";
-        block(name, says, code, 9, offset)
+/// The same with bytes that start a command.
+fn unknown_expressions() -> Vec<Case> {
+    let bytes = [0x00, 0x0F, 0x12, 0x20, 0x24, 0x90, 0x91, 0xFF];
+    let at = |byte, place, code, offset| {
+        let name = format!("code {byte:02X} {place}");
+        ill_formed(name, UNKNOWN, code, offset)
     };
-    vec![
-        at("code 1F", vec![0x1F], 0),
-        at("code 25", vec![0x25], 0),
-        at("an expression for a command", literal(integer(1)), 0),
-        at("code 25 in a sequence", vec![0x22, 2, 0x20, 0x25], 3),
-        at("a command for a target", vec![0x21, 0x20], 1),
-        at("code 12 for a guard", vec![0x24, 0x12], 1),
-        at("code 12 after a read", vec![0x24, 0x11, 0x12], 2),
-        at(
-            "code 0F for a value",
-            join(&[&[0x21], &target(), &[0x0F]]),
-            1 + LITERAL,
-        ),
-    ]
+    let cases = bytes.into_iter().flat_map(|byte| {
+        let value = join(&[&[0x21], &literal(write_view(0)), &[byte]]);
+        [
+            at(byte, "for a target", vec![0x21, byte], 1),
+            at(byte, "for a value", value, 1 + LITERAL),
+            at(byte, "for a guard", vec![0x24, byte], 1),
+            at(byte, "after a read", vec![0x24, 0x11, byte], 2),
+        ]
+    });
+    cases.collect()
 }
 
 fn bad_counts() -> Vec<Case> {
     let says = "22 sequence, a count byte 2 to 255, then that many commands";
     let end = [integer(5), integer(7)];
+    let inner = vec![0x22, 2, 0x20, 0x22, 1, 0x20];
     vec![
-        block("count 0", says, vec![0x22, 0], 9, 1),
-        block("count 1", says, vec![0x22, 1, 0x20], 9, 1),
+        ill_formed("count 0", says, vec![0x22, 0], 1),
+        ill_formed("count 0 and a command", says, vec![0x22, 0, 0x20], 1),
+        ill_formed("count 1", says, vec![0x22, 1], 1),
+        ill_formed("count 1 and a command", says, vec![0x22, 1, 0x20], 1),
+        ill_formed("count 1 in a sequence", says, inner, 4),
         case("count 2", says)
             .block(0, sequence(&vec![skip(); 2]))
             .finishes(0, &end),
@@ -62,13 +75,13 @@ fn bad_counts() -> Vec<Case> {
     ]
 }
 
+const EARLY: &str = "code that ends early (offset: the block's length)";
+
 fn early_ends() -> Vec<Case> {
     let cut = |name, code: Bytes| {
         let length = code.len();
-        let says = "code that ends early (offset: the block's length)";
-        block(name, says, code, 9, length)
+        ill_formed(name, EARLY, code, length)
     };
-    let whole = set_integer(0, 9);
     let one_part = join(&[&[0x23], &literal(truth(true)), &skip()]);
     vec![
         cut("code of no bytes", vec![]),
@@ -77,176 +90,86 @@ fn early_ends() -> Vec<Case> {
         cut("code ends before the second command", vec![0x22, 2, 0x20]),
         cut("code ends before the else-part", one_part),
         cut("code ends before a kind", vec![0x21, 0x10]),
-        cut("code ends in a payload", vec![0x21, 0x10, 0x03, 0x00]),
-        cut(
-            "code ends one byte early",
-            whole[..whole.len() - 1].to_vec(),
-        ),
     ]
+}
+
+/// Each kind of command and expression, cut after each of its bytes.
+fn cut_blocks() -> Vec<Case> {
+    let whole = sequence(&[
+        if_else(slot(0), set_integer(0, 3), skip()),
+        while_do(literal(truth(false)), set(1, slot(1))),
+        skip(),
+    ]);
+    let cut = |length: usize| {
+        let name = format!("code cut to {length} bytes");
+        ill_formed(name, EARLY, whole[..length].to_vec(), length)
+    };
+    (1..whole.len()).map(cut).collect()
 }
 
 fn left_over() -> Vec<Case> {
     let says = "bytes left over (the first of them)";
     let assignment = set_integer(0, 9);
     let after = assignment.len();
+    let behind = |more: &[u8]| join(&[&assignment, more]);
     vec![
-        block("two skips", says, vec![0x20, 0x20], 9, 1),
-        block(
-            "a byte after an assignment",
+        ill_formed("two skips", says, vec![0x20, 0x20], 1),
+        ill_formed("nine bytes after a skip", says, [0x20; 10].into(), 1),
+        ill_formed("a byte after an assignment", says, behind(&[0xFF]), after),
+        ill_formed("00 after an assignment", says, behind(&[0x00]), after),
+        ill_formed("two assignments", says, behind(&assignment), after),
+        ill_formed(
+            "half an assignment after one",
             says,
-            join(&[&assignment, &[0xFF]]),
-            9,
+            behind(&[0x21, 0x10]),
             after,
         ),
     ]
 }
 
-/// A bad literal stands at its kind byte, whatever is wrong with it.
+/// A bad literal stands at its kind byte, whatever is wrong with it: byte 2 of a
+/// target, byte 3 of a guard's read, and of a value after 21, a target and 10.
 fn bad_literals() -> Vec<Case> {
     let placed = "a bad literal at its kind byte";
-    let as_target = |name, value| block(name, placed, set_to(literal(value)), 9, 2);
-    let bad_value = set(0, literal(value(1, 2)));
+    let bad = [
+        ("of kind 4", value(4, 0)),
+        ("of kind 10", value(0x10, 0)),
+        ("of kind FF", value(0xFF, 0)),
+        ("truth 2", value(1, 2)),
+        ("read view of slot m", read_view(2)),
+        ("write view of slot m", write_view(2)),
+        ("view of slot 256", write_view(0x100)),
+        ("view of slot -1", write_view(-1)),
+    ];
+    let cases = bad.into_iter().flat_map(|(what, value)| {
+        let target = assign(literal(value.clone()), literal(integer(1)));
+        let guard = while_do(read(literal(value.clone())), skip());
+        let assigned = set(0, literal(value));
+        let at = |place, code, offset| {
+            let name = format!("literal {what} as {place}");
+            ill_formed(name, placed, code, offset)
+        };
+        [
+            at("target", target, 2),
+            at("a guard's read", guard, 3),
+            at("value", assigned, 1 + LITERAL + 1),
+        ]
+    });
+    cases.collect()
+}
+
+/// A target's literal of which only so many bytes of the payload are there; all
+/// of them, they would be ill-formed.
+fn cut_payloads() -> Vec<Case> {
     let first = "the kind is judged before the payload's bytes are counted";
-    vec![
-        as_target("literal of kind 4", value(4, 0)),
-        as_target("literal truth 2", value(1, 2)),
-        as_target("literal view of slot m", write_view(2)),
-        as_target("literal view of slot 256", write_view(0x100)),
-        block(
-            "literal truth 2 as value",
-            placed,
-            bad_value,
-            9,
-            1 + LITERAL + 1,
-        ),
-        block(
-            "kind 4 before its payload",
-            first,
-            vec![0x21, 0x10, 0x04],
-            9,
-            2,
-        ),
-    ]
-}
-
-/// An assignment of 1 to this target.
-fn set_to(target: Bytes) -> Bytes {
-    assign(target, literal(integer(1)))
-}
-
-/// `depth` commands in all, each but the innermost made by `around`.
-fn nested(depth: usize, inner: Bytes, around: fn(Bytes) -> Bytes) -> Bytes {
-    (1..depth).fold(inner, |inner, _| around(inner))
-}
-
-fn in_sequence(inner: Bytes) -> Bytes {
-    sequence(&[skip(), inner])
-}
-
-fn in_else(inner: Bytes) -> Bytes {
-    if_else(literal(truth(false)), skip(), inner)
-}
-
-fn in_while(inner: Bytes) -> Bytes {
-    while_do(literal(truth(false)), inner)
-}
-
-/// The first command inside the 32nd is the first that is too deep: a sequence's
-/// first command follows its byte and count, an if's then-part its byte and
-/// guard, and so does a while's body.
-fn too_deep() -> Vec<Case> {
-    let deep = "10 nested too deep or a ninth 11, at that byte";
-    let end = [integer(5), integer(7)];
-    let by_sequences = |depth| nested(depth, skip(), in_sequence);
-    let by_else_parts = |depth| nested(depth, skip(), in_else);
-    let unknown = nested(33, vec![0x25], in_while);
-    vec![
-        case("depth 32 by sequences", deep)
-            .block(0, by_sequences(32))
-            .finishes(0, &end),
-        block(
-            "depth 33 by sequences",
-            deep,
-            by_sequences(33),
-            10,
-            31 * 3 + 2,
-        ),
-        case("depth 32 by else-parts", deep)
-            .block(0, by_else_parts(32))
-            .finishes(31, &end),
-        block(
-            "depth 33 by else-parts",
-            deep,
-            by_else_parts(33),
-            10,
-            31 * (1 + LITERAL + 1) + 1 + LITERAL,
-        ),
-        block(
-            "an unknown byte at depth 33",
-            "an unknown byte is 9 at any depth",
-            unknown,
-            9,
-            32 * (1 + LITERAL),
-        ),
-    ]
-}
-
-/// Slot 8, at the end of eight read views, the last of which is a write view.
-fn ladder() -> Vec<(u8, Bytes)> {
-    let mut slots: Vec<(u8, Bytes)> = (1..8).map(|next| (0, read_view(next))).collect();
-    slots.extend([(0, write_view(8)), (0, integer(7))]);
-    slots
-}
-
-fn too_many_reads() -> Vec<Case> {
-    let row = "At most 8 bytes 11 stand in a row in one expression.";
-    let mut end: Vec<Bytes> = ladder().into_iter().map(|(_, value)| value).collect();
-    end[8] = write_view(8);
-    vec![
-        case("8 reads in target and in value", row)
-            .store(store(&[1], &ladder()))
-            .block(0, assign(reads(8, 0), reads(8, 0)))
-            .finishes(1, &end),
-        block(
-            "9 reads in a guard",
-            row,
-            while_do(reads(9, 0), skip()),
-            10,
-            1 + 8,
-        ),
-        block("9 reads in a target", row, set_to(reads(9, 0)), 10, 1 + 8),
-        block("20 reads", row, while_do(reads(20, 0), skip()), 10, 1 + 8),
-    ]
-}
-
-/// The first fault in byte order is the answer, and all code is read before
-/// any of it runs.
-fn byte_order() -> Vec<Case> {
-    let order = "9 or 10 in byte order; 12; run";
-    let nine_reads = || while_do(reads(9, 0), skip());
-    vec![
-        block(
-            "10 before 9 in a block",
-            order,
-            sequence(&[nine_reads(), vec![0x25]]),
-            10,
-            2 + 1 + 8,
-        ),
-        block(
-            "9 before 10 in a block",
-            order,
-            sequence(&[vec![0x25], nine_reads()]),
-            9,
-            2,
-        ),
-        case("10 in block 0 before 9 in block 1", order)
-            .blocks(&[(0, nine_reads()), (0, vec![0x25])])
-            .refused(10, 0, 1 + 8, 0),
-        case("9 in block 1 before 10 in block 2", order)
-            .blocks(&[(0, skip()), (0, vec![0x25]), (0, nine_reads())])
-            .refused(9, 1, 0, 0),
-        case("code is read before it runs", order)
-            .blocks(&[(0, set_integer(1, 9)), (0, vec![0x25])])
-            .refused(9, 1, 0, 0),
-    ]
+    let cut = |kind: u8, bytes| join(&[&[0x21, 0x10, kind], &vec![0xFF; bytes]]);
+    let cases = (0..PAYLOAD).flat_map(|bytes| {
+        let unknown = format!("kind 4 and {bytes} bytes of its payload");
+        let known = format!("kind 3 and {bytes} bytes of its payload");
+        [
+            ill_formed(unknown, first, cut(4, bytes), 2),
+            ill_formed(known, EARLY, cut(3, bytes), 3 + bytes),
+        ]
+    });
+    cases.collect()
 }

@@ -4,7 +4,7 @@
 //! and which are played here as well; docs/LADDER.md has their table.
 
 use crate::case::{case, finished, refused, Case, Draft, Expected};
-use crate::common::*;
+use sheets::*;
 
 pub fn cases() -> Vec<Case> {
     let mut cases = from_3_to_2();
@@ -25,7 +25,7 @@ const LARGER: &str =
 const TEN: u32 = 10;
 
 /// An example, run under two rules.
-fn under(rules: [u8; 2], example: Draft, ends: [Expected; 2]) -> Vec<Case> {
+fn under(rules: [u32; 2], example: Draft, ends: [Expected; 2]) -> Vec<Case> {
     let runs = rules.into_iter().zip(ends).map(|(rule, end)| {
         let run = example.clone().variant(&format!("rule {rule}"));
         run.budget(TEN).rule(rule).ends(end)

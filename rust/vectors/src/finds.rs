@@ -3,7 +3,7 @@
 //! "01's finds are worked again" (document 02, N3): values have nine bytes.
 
 use crate::case::{case, Case};
-use crate::common::*;
+use sheets::*;
 
 pub fn cases() -> Vec<Case> {
     let mut cases = limits();
@@ -110,31 +110,37 @@ fn single_blocks() -> Vec<Case> {
     ]
 }
 
-/// P10 to P12.
+/// P10 to P12, under each rule.
 fn budgets() -> Vec<Case> {
     let never = || while_do(literal(truth(false)), skip());
     let ever = || while_do(literal(truth(true)), skip());
-    let once = |name| {
+    let once = |name: String| {
         case(
             name,
             "while false do skip: budget 1 finishes, budget 0 gives 17",
         )
     };
-    vec![
-        case("P10", "k = 0, budget 0: finishes")
-            .budget(0)
-            .finishes(0, &opening()),
-        once("P11 budget 1")
-            .block(0, never())
-            .budget(1)
-            .finishes(1, &opening()),
-        once("P11 budget 0")
-            .block(0, never())
-            .budget(0)
-            .refused(17, 0, 0, 0),
-        case("P12", "while true do skip, budget 3: 17, steps 3")
-            .block(0, ever())
-            .budget(3)
-            .refused(17, 0, 0, 3),
-    ]
+    let none = |name: String| case(name, "k = 0, budget 0: finishes").budget(0);
+    let spent = |name: String| case(name, "while true do skip, budget 3: 17, steps 3").budget(3);
+    let cases = RULES.into_iter().flat_map(|rule| {
+        let name = |find: &str| format!("{find} rule {rule}");
+        [
+            none(name("P10")).rule(rule).finishes(0, &opening()),
+            once(name("P11 budget 1"))
+                .block(0, never())
+                .rule(rule)
+                .budget(1)
+                .finishes(1, &opening()),
+            once(name("P11 budget 0"))
+                .block(0, never())
+                .rule(rule)
+                .budget(0)
+                .refused(17, 0, 0, 0),
+            spent(name("P12"))
+                .block(0, ever())
+                .rule(rule)
+                .refused(17, 0, 0, 3),
+        ]
+    });
+    cases.collect()
 }

@@ -1,38 +1,76 @@
-//! Labels: of values and targets (rules 2 and 3), of the branch (rule 3), and
-//! what endorsed blocks are spared. The refusal is 16.
+//! Labels of values and targets (rules 2 and 3), and what endorsed blocks are
+//! spared. The refusal is 16; that of the branch stands in `branches`.
 
 use crate::case::{case, Case, Draft};
-use crate::common::*;
+use sheets::*;
 
 pub fn cases() -> Vec<Case> {
-    let mut cases = values_and_targets();
+    let mut cases = literals();
+    cases.extend(values_and_targets());
+    cases.extend(flows());
+    cases.extend(targets());
     cases.extend(chains());
     cases.extend(meets());
-    cases.extend(unrelated());
     cases.extend(endorsed());
+    cases.extend(endorsed_in_all());
     cases.extend(not_kept());
-    cases.extend(if_parts());
-    cases.extend(bodies());
-    cases.extend(after_parts());
-    cases.extend(nested_parts());
-    cases.extend(crossed_parts());
-    cases.extend(rounds());
     cases
 }
 
 const RELIABLE: &str =
     "unless the block is endorsed the labels of target and value both stand at or above the owner";
-const BRANCH: &str =
-    "Inside an if-part or a while body it is the meet of the outer one and the guard's label";
+
+/// The diamond's principals, by number.
+const OWNERS: [u8; 4] = [LEFT, RIGHT, BOTTOM, TOP];
+const NAMES: [&str; 4] = ["left", "right", "bottom", "top"];
+
+fn name_of(principal: u8) -> &'static str {
+    NAMES[usize::from(principal)]
+}
+
+/// In the diamond.
+fn at_or_below(lower: u8, upper: u8) -> bool {
+    lower == upper || lower == BOTTOM || upper == TOP
+}
+
+/// Refused by 16 at its first step, unless it passes and finishes in that step.
+fn passes_or_16(block: Draft, passes: bool, end: &[Bytes]) -> Case {
+    if passes {
+        block.finishes(1, end)
+    } else {
+        block.refused(16, 0, 0, 0)
+    }
+}
 
 /// Slot 0 is low and holds this; slots 1 and 2 are high and hold 7 and 8.
-fn low_slot(value: Bytes) -> Bytes {
+pub fn low_slot(value: Bytes) -> Bytes {
     store(&PAIR, &[(0, value), (1, integer(7)), (1, integer(8))])
 }
 
 /// A block of region 1 over those slots.
-fn high_block(name: impl Into<String>, says: &'static str, low: Bytes, code: Bytes) -> Draft {
+pub fn high_block(name: impl Into<String>, says: &'static str, low: Bytes, code: Bytes) -> Draft {
     case(name, says).store(low_slot(low)).block(1, code)
+}
+
+/// "Its label: top for a literal", whatever the top's number is; here 0, and 1
+/// stands below it.
+fn literals() -> Vec<Case> {
+    let says = "Its label: top for a literal";
+    let reversed = |name, region, code| {
+        let slots = [(0, integer(5)), (1, integer(7))];
+        case(name, says)
+            .store(store(&[0b11, 0b10], &slots))
+            .block(region, code)
+            .rule(3)
+    };
+    let (nine, seven) = (integer(9), integer(7));
+    vec![
+        reversed("top 0: a literal goes up", 0, set_integer(0, 9)).finishes(1, &[nine, seven]),
+        reversed("top 0: a low value goes up", 0, set(0, slot(1))).refused(16, 0, 0, 0),
+        reversed("top 0: a high value goes down", 0, set(1, slot(0)))
+            .finishes(1, &[integer(5), integer(5)]),
+        reversed("top 0: 1 writes 0", 1, set_integer(0, 9)).refused(14, 0, 0, 0),
+    ]
 }
 
 fn values_and_targets() -> Vec<Case> {
@@ -62,6 +100,61 @@ fn values_and_targets() -> Vec<Case> {
     ]
 }
 
+/// The top's block copies each principal's integer to each principal's slot, and
+/// writes a literal there. Rules 0 and 1 judge no label.
+fn flows() -> Vec<Case> {
+    let integers = [0, 1, 2, 3].map(integer);
+    let slots: Vec<(u8, Bytes)> = OWNERS.into_iter().zip(integers.clone()).collect();
+    let block = |name, to: u8, value, rule| {
+        case(name, RELIABLE)
+            .store(store(&DIAMOND, &slots))
+            .block(TOP, set(i64::from(to), value))
+            .rule(rule)
+    };
+    let mut cases = Vec::new();
+    for (rule, to) in [0, 1, 2, 3]
+        .into_iter()
+        .flat_map(|rule| OWNERS.map(|to| (rule, to)))
+    {
+        let end = |value| {
+            let mut end = integers.clone();
+            end[usize::from(to)] = value;
+            end
+        };
+        let name = format!("a literal to {}, rule {rule}", name_of(to));
+        cases.push(block(name, to, literal(integer(9)), rule).finishes(1, &end(integer(9))));
+        cases.extend(OWNERS.map(|from| {
+            let name = format!("{} to {}, rule {rule}", name_of(from), name_of(to));
+            let copy = block(name, to, slot(i64::from(from)), rule);
+            let passes = rule < 2 || at_or_below(to, from);
+            passes_or_16(copy, passes, &end(integer(i64::from(from))))
+        }));
+    }
+    cases
+}
+
+/// The target is read from a slot of each principal, and is left's slot.
+fn targets() -> Vec<Case> {
+    let end = [write_view(1), integer(1)];
+    let cases = [2, 3].into_iter().flat_map(|rule| {
+        let end = end.clone();
+        OWNERS.map(|from| {
+            let target = |name, region| {
+                let slots = [(from, write_view(1)), (LEFT, integer(0))];
+                case(name, RELIABLE)
+                    .store(store(&DIAMOND, &slots))
+                    .block(region, assign(slot(0), literal(integer(1))))
+                    .rule(rule)
+            };
+            let name = format!("{}'s target for left, rule {rule}", name_of(from));
+            let endorsed = target(format!("{name}, endorsed"), 0x80 | TOP);
+            let judged = passes_or_16(target(name, TOP), at_or_below(LEFT, from), &end);
+            [judged, endorsed.finishes(1, &end)]
+        })
+    });
+    cases.flatten().collect()
+}
+
 /// Two reads in a row, of which one may be low.
 fn chains() -> Vec<Case> {
     let says = "for a read, the meet of the view's label and the slot's owner";
@@ -89,54 +182,49 @@ fn chains() -> Vec<Case> {
     ]
 }
 
-/// Slots 0 to 3 are owned by left, right, bottom and top; slot 0 shows slot
-/// 1, so two reads have the meet of left and right for a label.
-fn across() -> Bytes {
-    let values = [read_view(1), integer(7), integer(8), truth(true)];
-    let owners = [LEFT, RIGHT, BOTTOM, TOP];
-    let slots: Vec<(u8, Bytes)> = owners.into_iter().zip(values).collect();
-    store(&DIAMOND, &slots)
+/// Two reads in a row: slot 0, of `first`, shows slot 1, of `second`. What they
+/// give goes to `to`'s slot, which stands behind these.
+fn two_reads(first: u8, second: u8, to: u8) -> Draft {
+    let name = format!(
+        "by {} from {} to {}",
+        name_of(first),
+        name_of(second),
+        name_of(to)
+    );
+    let slots = [
+        (first, read_view(1)),
+        (second, integer(5)),
+        (to, integer(0)),
+    ];
+    case(
+        name,
+        "for a read, the meet of the view's label and the slot's owner",
+    )
+    .store(store(&DIAMOND, &slots))
+    .block(TOP, set(2, reads(2, 0)))
 }
 
-/// The misreading "taking the smaller principal number as the meet" gives
-/// left, which is 0.
+/// Their label is the meet of both owners. The misreading "taking the smaller
+/// principal number as the meet" gives left, which is 0, for left and right.
 fn meets() -> Vec<Case> {
-    let to = |name, target| {
-        case(
-            name,
-            "any two have a greatest common lower principal (their meet)",
-        )
-        .store(across())
-        .block(TOP, set(target, reads(2, 0)))
-        .rule(2)
-    };
-    vec![
-        to("the meet is bottom", 2)
-            .finishes(1, &[read_view(1), integer(7), integer(7), truth(true)]),
-        to("the meet is not left", 0).refused(16, 0, 0, 0),
-        to("the meet is not right", 1).refused(16, 0, 0, 0),
-        to("the meet is not top", 3).refused(16, 0, 0, 0),
-    ]
-}
-
-/// Left's value for right's slot, by a block of the top.
-fn unrelated() -> Vec<Case> {
-    let copy = |rule: u8| {
-        case(
-            format!("left to right, unrelated, rule {rule}"),
-            "The owner may be above it or unrelated to it.",
-        )
-        .store(across())
-        .block(TOP, set(1, slot(0)))
-        .rule(rule)
-    };
-    let end = [read_view(1), read_view(1), integer(8), truth(true)];
-    vec![
-        copy(0).finishes(1, &end),
-        copy(1).finishes(1, &end),
-        copy(2).refused(16, 0, 0, 0),
-        copy(3).refused(16, 0, 0, 0),
-    ]
+    let meets = [
+        (LEFT, RIGHT, BOTTOM),
+        (RIGHT, LEFT, BOTTOM),
+        (LEFT, TOP, LEFT),
+        (TOP, LEFT, LEFT),
+    ];
+    let end = [read_view(1), integer(5), integer(5)];
+    let mut cases = Vec::new();
+    for (first, second, meet) in meets {
+        for to in OWNERS {
+            let block = two_reads(first, second, to);
+            cases.extend([2, 3].map(|rule| {
+                let block = block.clone().variant(&format!("rule {rule}")).rule(rule);
+                passes_or_16(block, at_or_below(to, meet), &end)
+            }));
+        }
+    }
+    cases
 }
 
 /// An endorsed block is spared the judging of labels, all three, and nothing
@@ -152,7 +240,7 @@ fn endorsed() -> Vec<Case> {
     let copy = set(1, slot(0));
     let through = assign(slot(0), literal(integer(9)));
     let branch = if_else(slot(0), set_integer(1, 9), skip());
-    let up = |rule: u8, number| {
+    let up = |rule: u32, number| {
         case(format!("endorsed without authority, rule {rule}"), says)
             .block(0x80, set_integer(1, 9))
             .rule(rule)
@@ -169,6 +257,7 @@ fn endorsed() -> Vec<Case> {
         up(1, 15),
         up(2, 14),
         up(3, 14),
+        up(255, 14),
         case("endorsed block before another", says)
             .store(low_slot(integer(5)))
             .blocks(&[(0x81, copy.clone()), (1, copy)])
@@ -177,147 +266,47 @@ fn endorsed() -> Vec<Case> {
     ]
 }
 
-/// The misreading "storing a label with a value".
+/// A low guard and a low value at once: the value is judged under rule 2 too.
+fn endorsed_in_all() -> Vec<Case> {
+    let code = if_else(slot(0), set(1, slot(0)), skip());
+    let place = 1 + slot(0).len();
+    let cases = [2, 3].into_iter().flat_map(|rule| {
+        let name = format!("low guard and value, rule {rule}");
+        let endorsed = format!("{name}, endorsed");
+        let block = |name, region| {
+            case(name, RELIABLE)
+                .store(low_slot(truth(true)))
+                .block(region, code.clone())
+                .rule(rule)
+        };
+        [
+            block(name, 1).refused(16, 0, place, 1),
+            block(endorsed, 0x81).finishes(2, &[truth(true), truth(true), integer(8)]),
+        ]
+    });
+    cases.collect()
+}
+
+/// The misreading "storing a label with a value". An endorsed block lifts a low
+/// value, and then its slot's owner counts; a high value that was put in a low
+/// slot comes back low.
 fn not_kept() -> Vec<Case> {
-    vec![case("a label is not kept", "Labels are not kept in slots.")
-        .store(low_slot(integer(5)))
-        .blocks(&[(0x81, set(1, slot(0))), (1, set(2, slot(1)))])
-        .rule(3)
-        .finishes(2, &[integer(5), integer(5), integer(5)])]
-}
-
-/// A guard of one read, with the command's byte before it.
-const HEAD: usize = 1 + 1 + LITERAL;
-
-/// A block of region 1 over those slots, slot 0 holding this truth value.
-fn on_flag(name: &str, flag: bool, code: &Bytes, rule: u8) -> Draft {
-    high_block(name, BRANCH, truth(flag), code.clone()).rule(rule)
-}
-
-/// The branch's label is judged under rule 3 only, and only at assignments.
-fn if_parts() -> Vec<Case> {
-    let parts = if_else(slot(0), set_integer(1, 41), set_integer(1, 42));
-    let else_part = HEAD + set_integer(1, 41).len();
-    let low = if_else(slot(0), set_integer(0, 9), skip());
-    let on_high = if_else(slot(2), set_integer(1, 9), skip());
-    let high_flag = store(&PAIR, &[(0, integer(5)), (1, integer(7)), (1, truth(true))]);
-    vec![
-        on_flag("then-part on a low guard", true, &parts, 3).refused(16, 0, HEAD, 1),
-        on_flag("else-part on a low guard", false, &parts, 3).refused(16, 0, else_part, 1),
-        on_flag("else-part on a low guard, rule 2", false, &parts, 2)
-            .finishes(2, &[truth(false), integer(42), integer(8)]),
-        on_flag("low slot on a low guard", true, &low, 3)
-            .finishes(2, &[integer(9), integer(7), integer(8)]),
-        case("high slot on a high guard", BRANCH)
-            .store(high_flag)
-            .block(1, on_high)
-            .rule(3)
-            .finishes(2, &[integer(5), integer(9), truth(true)]),
-    ]
-}
-
-/// The same for a while's body.
-fn bodies() -> Vec<Case> {
-    let commands = [set_integer(1, 9), set(0, literal(truth(false)))];
-    let body = while_do(slot(0), sequence(&commands));
-    vec![
-        on_flag("body on a low guard", true, &body, 3).refused(16, 0, HEAD + 2, 1),
-        on_flag("body on a low guard, rule 2", true, &body, 2)
-            .finishes(4, &[truth(false), integer(9), integer(8)]),
-        on_flag("body not run on a low guard", false, &body, 3)
-            .finishes(1, &[truth(false), integer(7), integer(8)]),
-    ]
-}
-
-/// The misreading "leaving a while body's label behind".
-fn after_parts() -> Vec<Case> {
-    let says = "after the part, or after each round before judging again, the outer one is back";
-    let once = while_do(slot(0), set(0, literal(truth(false))));
-    let part = if_else(slot(0), skip(), skip());
-    let block = |name, low: bool, code| high_block(name, says, truth(low), code).rule(3);
-    let up = || set_integer(1, 9);
-    vec![
-        block("after a while", true, sequence(&[once.clone(), up()]))
-            .finishes(4, &[truth(false), integer(9), integer(8)]),
-        block(
-            "after a while that did not run",
-            false,
-            sequence(&[once.clone(), up()]),
-        )
-        .finishes(2, &[truth(false), integer(9), integer(8)]),
-        block("after a then-part", true, sequence(&[part.clone(), up()]))
-            .finishes(2, &[truth(true), integer(9), integer(8)]),
-        block("after an else-part", false, sequence(&[part, up()]))
-            .finishes(2, &[truth(false), integer(9), integer(8)]),
-        case("in the next block", "It is top at a block's start.")
-            .store(low_slot(truth(true)))
-            .blocks(&[(1, once), (1, up())])
-            .rule(3)
-            .finishes(4, &[truth(false), integer(9), integer(8)]),
-    ]
-}
-
-/// The misreading "dropping the outer one inside nested parts": a part on a
-/// literal's guard, inside one on a low guard.
-fn nested_parts() -> Vec<Case> {
-    let yes = || literal(truth(true));
-    let up = || set_integer(1, 9);
-    let block = |name, inner| {
-        high_block(name, BRANCH, truth(true), if_else(slot(0), inner, skip())).rule(3)
-    };
-    let then_inside = if_else(yes(), up(), skip());
-    let else_inside = if_else(literal(truth(false)), skip(), up());
-    let body_inside = while_do(yes(), up());
-    let after_inside = sequence(&[if_else(yes(), skip(), skip()), up()]);
-    let inner = HEAD + 1 + LITERAL;
-    vec![
-        block("outer label in a then-part", then_inside).refused(16, 0, inner, 2),
-        block("outer label in an else-part", else_inside).refused(16, 0, inner + 1, 2),
-        block("outer label in a body", body_inside).refused(16, 0, inner, 2),
-        block("outer label after a nested part", after_inside).refused(
-            16,
-            0,
-            HEAD + 2 + 1 + LITERAL + 2,
-            2,
-        ),
-    ]
-}
-
-/// A part on right's guard inside one on left's: the branch's label is their
-/// meet, the bottom. Left's alone would let slot 0 be written, right's slot 1.
-fn crossed_parts() -> Vec<Case> {
-    let slots = [
-        (LEFT, truth(true)),
-        (RIGHT, truth(true)),
-        (BOTTOM, integer(8)),
-        (TOP, integer(9)),
-    ];
-    let to = |name, target| {
-        let inner = if_else(slot(1), set_integer(target, 3), skip());
-        case(name, BRANCH)
-            .store(store(&DIAMOND, &slots))
-            .block(TOP, if_else(slot(0), inner, skip()))
-            .rule(3)
-    };
-    vec![
-        to("two guards, left's slot", 0).refused(16, 0, 2 * HEAD, 2),
-        to("two guards, right's slot", 1).refused(16, 0, 2 * HEAD, 2),
-        to("two guards, bottom's slot", 2)
-            .finishes(3, &[truth(true), truth(true), integer(3), integer(9)]),
-    ]
-}
-
-/// Slot 1, high, shows slot 2, high, and after a round slot 0, low: the guard
-/// is judged anew, and the second round's label is low.
-fn rounds() -> Vec<Case> {
-    let slots = [(0, truth(true)), (1, read_view(2)), (1, truth(true))];
-    let code = while_do(reads(2, 1), set(1, literal(read_view(0))));
-    vec![case(
-        "the second round's label",
-        "A while whose guard is true runs its body and judges again.",
-    )
-    .store(store(&PAIR, &slots))
-    .block(1, code)
-    .rule(3)
-    .refused(16, 0, 1 + 2 + LITERAL, 3)]
+    let lift = [(0x81, set(1, slot(0))), (1, set(2, slot(1)))];
+    let sink = [(1, set(0, slot(1))), (1, set(2, slot(0)))];
+    let cases = [2, 3].into_iter().flat_map(|rule| {
+        let block = |what: &str, blocks| {
+            case(
+                format!("a label is not kept, {what}, rule {rule}"),
+                "Labels are not kept in slots.",
+            )
+            .store(low_slot(integer(5)))
+            .blocks(blocks)
+            .rule(rule)
+        };
+        [
+            block("lifted", &lift).finishes(2, &[integer(5), integer(5), integer(5)]),
+            block("sunk", &sink).refused(16, 1, 0, 1),
+        ]
+    });
+    cases.collect()
 }

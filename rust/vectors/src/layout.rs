@@ -2,7 +2,7 @@
 //! print. `crates/vectors/specs/Cases.antt` says the same of a case's bytes.
 
 use crate::case::{Case, Expected};
-use crate::common::*;
+use sheets::*;
 
 /// The word that each case starts with.
 const MARK: &[u8; 4] = b"case";
@@ -21,7 +21,8 @@ fn case_bytes(case: &Case) -> Bytes {
     let call = &case.call;
     join(&[
         MARK,
-        &[one_byte(name.len()), call.rule],
+        &[one_byte(name.len())],
+        &call.rule.to_le_bytes(),
         &call.budget.to_le_bytes(),
         &two_bytes(case.output),
         &two_bytes(call.store.len()),

@@ -12,7 +12,9 @@ pub mod list;
 pub mod paper;
 
 mod arguments;
+mod branches;
 mod code;
+mod depth;
 mod descents;
 mod finds;
 mod labels;
@@ -22,10 +24,7 @@ mod steps;
 mod store_sheets;
 #[cfg(test)]
 mod tests;
-
-/// The builder of sheets and code that the second runner's tests use too.
-#[path = "../../tests/common/mod.rs"]
-pub mod common;
+mod views;
 
 use std::path::PathBuf;
 

@@ -2,8 +2,8 @@
 
 use crate::case::Case;
 use crate::{
-    arguments, code, descents, finds, labels, paper, payloads, programme_sheets, steps,
-    store_sheets,
+    arguments, branches, code, depth, descents, finds, labels, paper, payloads, programme_sheets,
+    steps, store_sheets, views,
 };
 
 pub fn cases() -> Vec<Case> {
@@ -13,8 +13,11 @@ pub fn cases() -> Vec<Case> {
         store_sheets::cases(),
         programme_sheets::cases(),
         code::cases(),
+        depth::cases(),
         steps::cases(),
+        views::cases(),
         labels::cases(),
+        branches::cases(),
         descents::cases(),
         payloads::cases(),
         paper::cases(),

@@ -14,7 +14,7 @@
 //! answer here is the rule set's own by document 01.
 
 use crate::case::{case, finished, refused, Case, Expected};
-use crate::common::*;
+use sheets::*;
 
 /// The paper's ⊥ and ⊤, and ⊤ endorsed.
 const LOW: u8 = 0;
@@ -88,7 +88,7 @@ fn under_each_rule(example: Example, number: usize) -> Vec<Case> {
         case(name(number, rule), example.says)
             .store(sheet.clone())
             .blocks(&example.blocks)
-            .rule(u8::try_from(rule).expect("a rule number"))
+            .rule(u32::try_from(rule).expect("a rule number"))
     };
     let ends = example.ends.into_iter().enumerate();
     ends.map(|(rule, end)| draft(rule).ends(end)).collect()
@@ -302,7 +302,7 @@ fn branch() -> Example {
 /// What the paper says of the same contexts besides the table.
 fn further() -> Vec<Case> {
     let honest = sequence(&[set(1, literal(write_view(1))), set_integer(0, 42)]);
-    let service = |rule: u8| {
+    let service = |rule: u32| {
         case(
             format!("paper-05 with an honest caller, rule {rule}"),
             "the adversary can legitimately influence the billing file",
@@ -331,7 +331,7 @@ fn further() -> Vec<Case> {
 /// region is not endorsed and contains no write view, but the view that the
 /// endorsed one stored is there: EPs let the adversary choose what rH gets.
 fn theorem_5() -> [Case; 3] {
-    let run = |sent: bool, rule: u8| {
+    let run = |sent: bool, rule: u32| {
         let through = |payload| set_through(2, literal(integer(payload)));
         case(
             format!("paper theorem 5 with an endorsed block, {sent}, rule {rule}"),

@@ -3,10 +3,11 @@
 //! layout with values of five bytes, which is refused.
 
 use crate::case::{case, Case};
-use crate::common::*;
+use sheets::*;
 
 pub fn cases() -> Vec<Case> {
     let mut cases = kept();
+    cases.extend(lowest());
     cases.extend(bad_in_sheets());
     cases.extend(bad_in_code());
     cases.extend(cut_literals());
@@ -24,6 +25,7 @@ fn kept() -> Vec<Case> {
     let integers = [
         (LEAST, signed),
         (GREATEST, signed),
+        (-1, signed),
         // What four bytes don't hold; the last one's lower half is that of -1.
         (1 << 31, signed),
         (-(1 << 31) - 1, signed),
@@ -43,6 +45,21 @@ fn kept() -> Vec<Case> {
             .finishes(2, &[integer(payload), integer(payload), integer(payload)])
     };
     integers.map(case_of).into()
+}
+
+/// 0 and 1 are good payloads of each kind, in a sheet of two slots and in code:
+/// of what follows, only the bytes above are bad.
+fn lowest() -> Vec<Case> {
+    let of_kind = |kind: u8| {
+        [0, 1].map(|payload| {
+            let good = value(kind, payload);
+            case(format!("kind {kind}, payload {payload}"), WIDTHS)
+                .store(store(&[1], &[(0, good.clone()), (0, integer(7))]))
+                .block(0, set(1, literal(good.clone())))
+                .finishes(1, &[good.clone(), good])
+        })
+    };
+    (0..4).flat_map(of_kind).collect()
 }
 
 /// Payloads that would be good without a byte of their upper half. With one slot

@@ -2,7 +2,7 @@
 //! its blocks start.
 
 use crate::case::{case, Case};
-use crate::common::*;
+use sheets::*;
 
 /// Document 02, N4.
 const RUNNING: &str = "before each block it equals the lengths of all blocks before it";
@@ -33,9 +33,16 @@ fn lengths() -> Vec<Case> {
     };
     let good = example_programme([0, 1]);
     let short = good[..good.len() - 1].to_vec();
+    let cut = |name, length| sheet(name, good[..length].to_vec());
     vec![
         sheet("programme of no bytes", vec![]).refused_early(6),
+        // Sizes that would be past their limits, but aren't all there.
+        sheet("programme of one byte", vec![65]).refused_early(6),
         sheet("programme of two bytes", vec![65, 0xFF]).refused_early(6),
+        cut("programme of its sizes", 3).refused_early(6),
+        cut("programme cut in its regions", 3 + 1).refused_early(6),
+        cut("programme cut in its lengths", 3 + 2 + 3).refused_early(6),
+        cut("programme cut before its code", 3 + 2 + 4).refused_early(6),
         sheet("programme one byte short", short).refused_early(6),
         sheet("programme one byte long", join(&[&good, &[0x20]])).refused_early(6),
         // The region's principal is not below n.
@@ -80,11 +87,14 @@ fn regions() -> Vec<Case> {
     let region =
         |name, region| case(name, "8 region's principal not below n").block(region, skip());
     vec![
+        region("region 00", 0x00).finishes(0, &opening()),
+        region("region 80", 0x80).finishes(0, &opening()),
         region("region 01", 0x01).finishes(0, &opening()),
         region("region 81", 0x81).finishes(0, &opening()),
         region("region 02", 0x02).refused_early(8),
         region("region 82", 0x82).refused_early(8),
         region("region 7F", 0x7F).refused_early(8),
+        region("region FF", 0xFF).refused_early(8),
         case(
             "region of the second block",
             "8 in block order; length sum (6)",
@@ -117,6 +127,9 @@ fn sums() -> Vec<Case> {
     };
     vec![
         said("lengths one short", [1, 0]),
+        said("lengths one short, the first 0", [0, 1]),
+        said("lengths of nothing", [0, 0]),
+        said("lengths one long, the first 2", [2, 1]),
         said("lengths one long", [1, 2]),
         // 65,536 more than c, so that two bytes cannot hold the sum.
         said("lengths past two bytes", [0xFFFF, 3]),
@@ -191,7 +204,6 @@ fn far_places() -> Vec<Case> {
 /// Everything at its limit: 32 principals, 256 slots, 64 blocks, 16,384 bytes
 /// of code. The last block's last command writes the last slot.
 fn full_size() -> Case {
-    let masks: Vec<u32> = (0..32).map(|i| u32::MAX >> (31 - i)).collect();
     let slots = vec![(31, integer(7)); 256];
     let mut blocks = vec![(31, sequence(&vec![skip(); 255])); 63];
     let write = set_integer(255, -1);
@@ -202,7 +214,7 @@ fn full_size() -> Case {
     let mut end = vec![integer(7); 256];
     end[255] = integer(-1);
     case("all at its limit", "The limits and rule numbers stand once")
-        .store(store(&masks, &slots))
+        .store(store(&chain(32), &slots))
         .blocks(&blocks)
         .rule(3)
         .finishes(1, &end)

@@ -1,71 +1,125 @@
-//! Steps that are forbidden, and where: 13, 14, 15 and 17. Those of 16 stand
-//! in `labels`.
+//! Steps that are forbidden, and where: 13, 14 and 17, and the order in which a
+//! step is judged. Those of 15 stand in `views`, those of 16 in `labels` and
+//! `branches`.
 //!
 //! No number from 1 to 17 is without a case. Some cannot come up under some
 //! rules: 14 under rule 1, which judges write views instead; 15 under the
 //! others; 16 under rules 0 and 1, which judge no labels.
 
 use crate::case::{case, Case, Draft};
-use crate::common::*;
+use sheets::*;
 
 pub fn cases() -> Vec<Case> {
     let mut cases = wrong_kinds();
+    cases.extend(right_kinds());
     cases.extend(kinds_in_a_run());
     cases.extend(authority());
-    cases.extend(write_views_met());
-    cases.extend(write_views_read());
     cases.extend(order_in_a_step());
-    cases.extend(budget());
+    cases.extend(budget_first());
+    cases.extend(spent());
+    cases.extend(counted());
+    cases.extend(present_values());
     cases
 }
 
-/// What is wrong however much authority there is.
-fn wrong_kinds() -> Vec<Case> {
-    let wrong = |name: &str, code| {
-        case(name, "13 wrong kind for a guard, read or target")
-            .block(1, code)
-            .refused(13, 0, 0, 0)
-    };
-    let set_to = |target| assign(target, literal(integer(1)));
-    let set_by = |view| set(0, read(literal(view)));
-    vec![
-        wrong(
-            "if of an integer",
-            if_else(literal(integer(1)), skip(), skip()),
-        ),
-        wrong("while of an integer", while_do(slot(0), skip())),
-        wrong(
-            "if of a read view",
-            if_else(literal(read_view(0)), skip(), skip()),
-        ),
-        wrong(
-            "while of a write view",
-            while_do(literal(write_view(0)), skip()),
-        ),
-        wrong("read of an integer", set_by(integer(0))),
-        wrong("read of a truth value", set_by(truth(true))),
-        wrong("read of a write view", set_by(write_view(0))),
-        wrong("read of a slot's integer", set(0, reads(2, 0))),
-        wrong("assignment to an integer", set_to(literal(integer(0)))),
-        wrong("assignment to a read view", set_to(literal(read_view(0)))),
-        wrong("assignment to a slot's integer", set_to(slot(0))),
-    ]
+/// Slots 0 to 3 hold one value of each kind; all are principal 0's.
+fn kinds_store() -> Bytes {
+    let kinds = [integer(5), truth(true), read_view(0), write_view(0)];
+    store(&PAIR, &kinds.map(|value| (0, value)))
 }
+
+/// A block of region 0 over those slots, under each rule.
+fn by_rule(name: &str, code: Bytes) -> [Draft; RULES.len()] {
+    RULES.map(|rule| {
+        let says = "13 wrong kind for a guard, read or target";
+        case(format!("{name}, rule {rule}"), says)
+            .store(kinds_store())
+            .block(0, code.clone())
+            .rule(rule)
+    })
+}
+
+/// What is wrong whatever the rule; each view here is of an own slot.
+fn wrong_kinds() -> Vec<Case> {
+    let if_of = |guard| if_else(guard, skip(), skip());
+    let while_of = |guard| while_do(guard, skip());
+    let set_to = |target| assign(target, literal(integer(1)));
+    let set_by = |view| set(0, read(view));
+    let commands = [
+        ("if of an integer", if_of(literal(integer(1)))),
+        ("if of a read view", if_of(literal(read_view(1)))),
+        ("while of a write view", while_of(literal(write_view(0)))),
+        ("while of a slot's integer", while_of(slot(0))),
+        ("if of a slot's read view", if_of(slot(2))),
+        ("while of a slot's write view", while_of(slot(3))),
+        ("read of an integer", set_by(literal(integer(0)))),
+        ("read of a truth value", set_by(literal(truth(false)))),
+        ("read of a write view", set_by(literal(write_view(0)))),
+        ("read of a slot's integer", set_by(slot(0))),
+        ("read of a slot's truth value", set_by(slot(1))),
+        ("read of a slot's write view", set_by(slot(3))),
+        ("assignment to an integer", set_to(literal(integer(0)))),
+        ("assignment to a truth value", set_to(literal(truth(true)))),
+        ("assignment to a read view", set_to(literal(read_view(0)))),
+        ("assignment to a slot's integer", set_to(slot(0))),
+        ("assignment to a slot's truth value", set_to(slot(1))),
+        ("assignment to a slot's read view", set_to(slot(2))),
+    ];
+    let commands = commands.into_iter();
+    let blocks = commands.flat_map(|(name, code)| by_rule(name, code));
+    blocks.map(|block| block.refused(13, 0, 0, 0)).collect()
+}
+
+/// A slot's own value as what it is.
+fn right_kinds() -> Vec<Case> {
+    let read_through = set(1, read(slot(2)));
+    let written_through = assign(slot(3), literal(integer(1)));
+    let guarded = while_do(slot(1), set(1, literal(truth(false))));
+    let views = || [read_view(0), write_view(0)];
+    let end = |first, second| [vec![first, second], views().into()].concat();
+    let read = end(integer(5), integer(5));
+    let written = end(integer(1), truth(true));
+    let judged = end(integer(5), truth(false));
+    let commands = [
+        ("a slot's read view is read", read_through, 1, read),
+        (
+            "a slot's write view is written",
+            written_through,
+            1,
+            written,
+        ),
+        ("a slot's truth value is a guard", guarded, 3, judged),
+    ];
+    let cases = commands.into_iter().flat_map(|(name, code, steps, end)| {
+        by_rule(name, code).map(|block| block.finishes(steps, &end))
+    });
+    cases.collect()
+}
+
+const PLACED: &str = "block and offset of the command's first byte in its block";
 
 /// A refusal is placed at its command's first byte, after the steps done.
 fn kinds_in_a_run() -> Vec<Case> {
-    let placed = "block and offset of the command's first byte in its block";
     let wrong = || if_else(literal(integer(1)), skip(), skip());
     let own = || set_integer(0, 9);
     let to_integer = while_do(slot(0), own());
     let flag = store(&PAIR, &[(0, truth(true)), (1, integer(7))]);
+    let no_target = assign(literal(integer(0)), literal(integer(0)));
+    let choice = if_else(literal(truth(false)), skip(), no_target);
+    let deep = sequence(&[skip(), while_do(literal(truth(true)), choice)]);
+    // After 22, a count and a skip: a while and an if, each a byte and a
+    // literal guard, and the if's then-part.
+    let place = 3 + (1 + LITERAL) + (1 + LITERAL) + 1;
     vec![
-        case("13 in a sequence", placed)
+        case("13 in a sequence", PLACED)
             .block(0, sequence(&[skip(), wrong()]))
             .refused(13, 0, 3, 0),
-        case("13 in the second block", placed)
+        case("13 in the second block", PLACED)
             .blocks(&[(0, own()), (0, sequence(&[own(), wrong()]))])
             .refused(13, 1, 2 + own().len(), 2),
+        case("13 deep in the third block", PLACED)
+            .blocks(&[(0, own()), (0, skip()), (0, deep)])
+            .refused(13, 2, place, 3),
         case(
             "a guard's kind changes",
             "A while whose guard is true runs its body and judges again.",
@@ -76,118 +130,53 @@ fn kinds_in_a_run() -> Vec<Case> {
     ]
 }
 
-fn authority() -> Vec<Case> {
-    let lacks = "14 region lacks authority";
-    let up = |rule: u8| {
-        case(format!("14 under rule {rule}"), lacks)
-            .block(0, set_integer(1, 9))
-            .rule(rule)
-            .refused(14, 0, 0, 0)
-    };
-    let diamond = |name, region, target| {
-        case(
-            name,
-            "Rule 0, access control: the region must be at or above the slot's owner.",
-        )
-        .store(diamond_store())
-        .block(region, set_integer(target, 9))
-    };
-    let mut cases: Vec<Case> = [2, 3, 255].map(up).into();
-    cases.extend([
-        diamond("left writes left", LEFT, 0)
-            .finishes(1, &[integer(9), integer(1), integer(2), integer(3)]),
-        diamond("left writes bottom", LEFT, 2)
-            .finishes(1, &[integer(0), integer(1), integer(9), integer(3)]),
-        diamond("left writes right, unrelated", LEFT, 1).refused(14, 0, 0, 0),
-        diamond("left writes top", LEFT, 3).refused(14, 0, 0, 0),
-        diamond("bottom writes left, above it", BOTTOM, 0).refused(14, 0, 0, 0),
-        case("14 after steps", "A forbidden step is not counted.")
-            .blocks(&[
-                (0, set_integer(0, 1)),
-                (0, sequence(&[skip(), set_integer(1, 9)])),
-            ])
-            .refused(14, 1, 3, 1),
-    ]);
-    cases
-}
-
 /// Slot i is owned by principal i of the diamond and holds i.
-fn diamond_store() -> Bytes {
-    let slots = [0, 1, 2, 3].map(|i| (i, integer(i64::from(i))));
-    store(&DIAMOND, &slots)
+fn diamond_values() -> [Bytes; 4] {
+    [0, 1, 2, 3].map(integer)
 }
 
-const CAPABILITY: &str = "each literal and each read result, intermediate ones too, \
-    that is a write view must have an owner at or below the region";
-
-/// Region 0 under rule 1, where slot 0 holds a write view of slot 1, which is
-/// above it.
-fn holding(name: &str, code: Bytes) -> Draft {
-    case(name, CAPABILITY)
-        .store(store(
-            &PAIR,
-            &[(0, write_view(1)), (1, integer(7)), (0, integer(8))],
-        ))
-        .block(0, code)
-        .rule(1)
-}
-
-/// Write views that nothing is written through.
-fn write_views_met() -> Vec<Case> {
-    let left_alone = [write_view(1), integer(7), integer(9)];
-    let put = [write_view(1), integer(7), write_view(2)];
-    vec![
-        holding("15 by a literal value", set(2, literal(write_view(1)))).refused(15, 0, 0, 0),
-        holding("15 by a read value", set(2, slot(0))).refused(15, 0, 0, 0),
-        holding(
-            "15 by a literal guard",
-            while_do(literal(write_view(1)), skip()),
-        )
-        .refused(15, 0, 0, 0),
-        holding("15 by a read guard", while_do(slot(0), skip())).refused(15, 0, 0, 0),
-        holding(
-            "15 by a literal that is read",
-            set(2, read(literal(write_view(1)))),
-        )
-        .refused(15, 0, 0, 0),
-        holding("15 by a read result that is read", set(2, reads(2, 0))).refused(15, 0, 0, 0),
-        holding("13 where rule 0 meets it", set(2, reads(2, 0)))
-            .rule(0)
-            .refused(13, 0, 0, 0),
-        holding("no 15 for what is not read", set_integer(2, 9)).finishes(1, &left_alone),
-        holding(
-            "no 15 for an own slot's write view",
-            set(2, literal(write_view(2))),
-        )
-        .finishes(1, &put),
-        holding("no 15 for a read view", set(2, literal(read_view(1))))
-            .finishes(1, &[write_view(1), integer(7), read_view(1)]),
-        case("15 by an unrelated owner's write view", CAPABILITY)
-            .store(diamond_store())
-            .block(LEFT, set(0, literal(write_view(1))))
-            .rule(1)
-            .refused(15, 0, 0, 0),
-    ]
-}
-
-/// The same slots, as a target.
-fn write_views_read() -> Vec<Case> {
-    let through = || assign(slot(0), literal(integer(9)));
-    let end = [write_view(1), integer(9), integer(8)];
-    vec![
-        holding("15 by a read target", through()).refused(15, 0, 0, 0),
-        holding("14 by a read target", through())
-            .rule(0)
-            .refused(14, 0, 0, 0),
-        holding("no 15 for a region above", skip())
-            .block(1, through())
-            .finishes(1, &end),
-        holding(
-            "15 in a sequence after a step",
-            sequence(&[set_integer(2, 9), through()]),
-        )
-        .refused(15, 0, 2 + set_integer(2, 9).len(), 1),
-    ]
+/// Who may write whose slot, under each rule. Rule 1 refuses the write view
+/// instead.
+fn authority() -> Vec<Case> {
+    let owners = [LEFT, RIGHT, BOTTOM, TOP];
+    let slots: Vec<(u8, Bytes)> = owners.into_iter().zip(diamond_values()).collect();
+    let writes = |name, region, target: usize, rule: u32| {
+        let says = "Rule 0, access control: the region must be at or above the slot's owner.";
+        case(format!("{name}, rule {rule}"), says)
+            .store(store(&DIAMOND, &slots))
+            .block(region, set_integer(target as i64, 9))
+            .rule(rule)
+    };
+    let may = [
+        ("left writes left", LEFT, 0),
+        ("left writes bottom", LEFT, 2),
+        ("right writes right", RIGHT, 1),
+        ("top writes right", TOP, 1),
+    ];
+    let may_not = [
+        ("left writes right, unrelated", LEFT, 1),
+        ("right writes left, unrelated", RIGHT, 0),
+        ("left writes top", LEFT, 3),
+        ("bottom writes left, above it", BOTTOM, 0),
+        ("endorsed left writes top", 0x80 | LEFT, 3),
+    ];
+    let mut cases = Vec::new();
+    for rule in RULES {
+        cases.extend(may.map(|(name, region, target)| {
+            let mut end = diamond_values();
+            end[target] = integer(9);
+            writes(name, region, target, rule).finishes(1, &end)
+        }));
+        let number = if rule == 1 { 15 } else { 14 };
+        cases.extend(may_not.map(|(name, region, target)| {
+            writes(name, region, target, rule).refused(number, 0, 0, 0)
+        }));
+    }
+    let after = sequence(&[skip(), set_integer(1, 9)]);
+    let late = case("14 after steps", "A forbidden step is not counted.");
+    let late = late.blocks(&[(0, set_integer(0, 1)), (0, after)]);
+    cases.push(late.refused(14, 1, 3, 1));
+    cases
 }
 
 /// "In a step: 17, then the guard, or the target and then the value, each
@@ -198,44 +187,119 @@ fn order_in_a_step() -> Vec<Case> {
     let no_target = literal(integer(0));
     let no_value = || read(literal(integer(0)));
     let high = || literal(write_view(1));
-    let step = |name: &str, code| case(name, order).block(0, code);
+    let step = |name: String, code, rule| case(name, order).block(0, code).rule(rule);
+    let under_1 = |name: &str, code| step(name.into(), code, 1);
+    let mut cases = vec![
+        under_1("target's 13 before value's 15", assign(no_target, high())).refused(13, 0, 0, 0),
+        under_1("target's 15 before value's 13", assign(high(), no_value())).refused(15, 0, 0, 0),
+        under_1("value's own 13", set(0, no_value())).refused(13, 0, 0, 0),
+    ];
+    for rule in [0, 2, 3, 255] {
+        let name = format!("value's 13 before 14, rule {rule}");
+        cases.push(step(name, assign(high(), no_value()), rule).refused(13, 0, 0, 0));
+    }
+    for rule in [2, 3, 255] {
+        let name = format!("14 before 16, rule {rule}");
+        cases.push(step(name, assign(high(), slot(0)), rule).refused(14, 0, 0, 0));
+    }
+    cases
+}
+
+/// Nothing is judged of a step for which there is no budget.
+fn budget_first() -> Vec<Case> {
+    let high = || literal(write_view(1));
+    let none = || literal(integer(0));
+    let commands = [
+        ("17 before a target's kind", assign(none(), none())),
+        ("17 before a target's write view", assign(high(), none())),
+        ("17 before a guard's kind", while_do(none(), skip())),
+        (
+            "17 before a guard's write view",
+            if_else(high(), skip(), skip()),
+        ),
+        ("17 before a read's kind", set(0, read(none()))),
+        ("17 before authority", set_integer(1, 9)),
+    ];
+    let cases = commands.into_iter().flat_map(|(name, code)| {
+        RULES.map(|rule| {
+            let says = "Before each step, if steps done equal the budget, the run is spent.";
+            case(format!("{name}, rule {rule}"), says)
+                .block(0, code.clone())
+                .rule(rule)
+                .budget(0)
+                .refused(17, 0, 0, 0)
+        })
+    });
+    cases.collect()
+}
+
+/// A spent run is placed at the command whose step is next: in the second block,
+/// after 22, a count and one assignment.
+fn spent() -> Vec<Case> {
+    let first = set_integer(0, 1);
+    let place = 2 + first.len();
+    let yes = || literal(truth(true));
+    let next = [
+        ("an assignment", set_integer(0, 2)),
+        ("a while", while_do(yes(), skip())),
+        ("an if", if_else(yes(), skip(), skip())),
+    ];
+    let cases = next.into_iter().map(|(name, command)| {
+        let code = sequence(&[first.clone(), command]);
+        case(format!("spent before {name}"), PLACED)
+            .blocks(&[(0, skip()), (0, code)])
+            .budget(1)
+            .refused(17, 1, place, 1)
+    });
+    cases.collect()
+}
+
+/// One round: guard, body, guard. Two rounds of two assignments: guard, body,
+/// guard, body, guard.
+fn counted() -> Vec<Case> {
+    let says = "A step is one guard judged or one assignment made; nothing else counts.";
+    let flags = store(&[1], &[(0, truth(true)), (0, truth(true))]);
+    let off = || literal(truth(false));
+    let with = |steps: u32, budget: u32, code| {
+        case(format!("{steps} steps, budget {budget}"), says)
+            .store(flags.clone())
+            .block(0, code)
+            .rule(3)
+            .budget(budget)
+    };
+    let one = |budget| with(3, budget, while_do(slot(0), set(0, off())));
+    let two = |budget| {
+        let body = sequence(&[set(0, slot(1)), set(1, off())]);
+        with(7, budget, while_do(slot(0), body))
+    };
+    let body = 1 + 1 + LITERAL;
     vec![
-        step("17 before 13", while_do(literal(integer(0)), skip()))
-            .budget(0)
-            .refused(17, 0, 0, 0),
-        step("17 before 14", set_integer(1, 9))
-            .budget(0)
-            .refused(17, 0, 0, 0),
-        step("target's 13 before value's 15", assign(no_target, high()))
-            .rule(1)
-            .refused(13, 0, 0, 0),
-        step("target's 15 before value's 13", assign(high(), no_value()))
-            .rule(1)
-            .refused(15, 0, 0, 0),
-        step("value's 13 before 14", assign(high(), no_value())).refused(13, 0, 0, 0),
-        step("14 before 16", assign(high(), slot(0)))
-            .rule(2)
-            .refused(14, 0, 0, 0),
+        one(1).refused(17, 0, body, 1),
+        one(2).refused(17, 0, 0, 2),
+        one(3).finishes(3, &[truth(false), truth(true)]),
+        two(4).refused(17, 0, body + 2, 4),
+        two(6).refused(17, 0, 0, 6),
+        two(7).finishes(7, &[truth(false), truth(false)]),
     ]
 }
 
-/// Guard, body, guard: three steps.
-fn budget() -> Vec<Case> {
-    let once = while_do(slot(0), set(0, literal(truth(false))));
-    let body = 1 + 1 + LITERAL;
-    let flag = store(&PAIR, &[(0, truth(true)), (1, integer(7))]);
-    let with = |budget: u32| {
-        case(
-            format!("three steps, budget {budget}"),
-            "if steps done equal the budget, the run is spent",
-        )
-        .store(flag.clone())
-        .block(0, once.clone())
-        .budget(budget)
+fn present_values() -> Vec<Case> {
+    let copies = sequence(&[set_integer(0, 8), set(1, slot(0)), set(0, slot(0))]);
+    let choice = |name, holds, end| {
+        let (then_part, else_part) = (set_integer(0, 41), set_integer(0, 42));
+        case(name, "23 if, guard, then-part, else-part")
+            .block(0, if_else(literal(truth(holds)), then_part, else_part))
+            .rule(3)
+            .finishes(2, &[integer(end), integer(7)])
     };
     vec![
-        with(1).refused(17, 0, body, 1),
-        with(2).refused(17, 0, 0, 2),
-        with(3).finishes(3, &[truth(false), integer(7)]),
+        case(
+            "a read of what was just written",
+            "a read needs a read view and gives that slot's present value",
+        )
+        .block(1, copies)
+        .finishes(3, &[integer(8), integer(8)]),
+        choice("an if of true", true, 41),
+        choice("an if of false", false, 42),
     ]
 }

@@ -1,7 +1,7 @@
 //! What is wrong with a store sheet (1 to 5), and what just is not.
 
 use crate::case::{case, Case, Draft};
-use crate::common::*;
+use sheets::*;
 
 pub fn cases() -> Vec<Case> {
     let mut cases = lengths();
@@ -13,11 +13,6 @@ pub fn cases() -> Vec<Case> {
     cases.extend(good_values());
     cases.extend(bad_values());
     cases
-}
-
-/// Principals in a chain, each above those with smaller numbers.
-fn chain(count: usize) -> Vec<u32> {
-    (0..count).map(|i| u32::MAX >> (31 - i)).collect()
 }
 
 fn without_last(sheet: Bytes) -> Bytes {
@@ -32,9 +27,18 @@ fn lengths() -> Vec<Case> {
         )
         .store(sheet)
     };
+    let cut = |name, length| sheet(name, example_store()[..length].to_vec());
     vec![
         sheet("store of no bytes", vec![]).refused_early(1),
-        sheet("store of two bytes", vec![1, 0]).refused_early(1),
+        // Sizes that would be past their limits, but aren't all there.
+        sheet("store of one byte", vec![33]).refused_early(1),
+        sheet("store of two bytes", vec![33, 0xFF]).refused_early(1),
+        cut("store of its sizes", 3).refused_early(1),
+        cut("store cut in its masks", 3 + 7).refused_early(1),
+        cut("store cut after its masks", 3 + 8).refused_early(1),
+        cut("store cut in its owners", 3 + 8 + 1).refused_early(1),
+        cut("store cut after its owners", 3 + 8 + 2).refused_early(1),
+        cut("store cut in its values", 3 + 8 + 2 + VALUE).refused_early(1),
         sheet("store one byte short", without_last(example_store())).refused_early(1),
         sheet("store one byte long", join(&[&example_store(), &[0]])).refused_early(1),
         // The order table has no meet.
@@ -55,7 +59,12 @@ fn sizes() -> Vec<Case> {
         sheet("n 0", store(&[], &[])).refused_early(2),
         sheet("n 32", store(&chain(32), &[(31, integer(5))])).finishes(0, &[integer(5)]),
         sheet("n 33", store(&[0; 33], &[])).refused_early(2),
+        sheet("n 0, no more bytes", vec![0, 0, 0]).refused_early(2),
+        sheet("n 33, no more bytes", vec![33, 0, 0]).refused_early(2),
         sheet("n 255, no more bytes", vec![255, 0, 0]).refused_early(2),
+        sheet("n 255 and m 65535", vec![255, 0xFF, 0xFF, 0, 0])
+            .output(0)
+            .refused_early(2),
         sheet("m 256", store(&[1], &slots(256))).finishes(0, &zeros),
         sheet("m 257, no more bytes", vec![1, 0x01, 0x01]).refused_early(2),
         sheet("m 256, no more bytes", vec![1, 0x00, 0x01]).refused_early(1),
@@ -92,7 +101,9 @@ fn bad_orders() -> Vec<Case> {
     let broken = [0b10001, 0b10011, 0b10110, 0b11111, 0b10000];
     vec![
         bad_table("order: bit n is set", bit, &[0b11]),
+        bad_table("order: bit n is set above", bit, &[0b001, 0b111]),
         bad_table("order: bit 31 is set", bit, &[0x8000_0001]),
+        bad_table("order: 0 not below itself", itself, &[0]),
         bad_table("order: 1 not below itself", itself, &[0b001, 0b001, 0b111]),
         bad_table("order: two below each other", other, &[0b11, 0b11]),
         bad_table("order: below is not handed on", handed_on, &broken),
@@ -127,7 +138,14 @@ fn owners() -> Vec<Case> {
         pair("owner n - 1", below, &[(1, integer(0))]).finishes(0, &[integer(0)]),
         pair("owner n", below, &[(2, integer(0))]).refused_early(4),
         pair("owner 80", below, &[(0, integer(0)), (0x80, integer(0))]).refused_early(4),
+        pair("owner FF", below, &[(0, integer(0)), (0xFF, integer(0))]).refused_early(4),
         pair("owner before value", order, &[(2, bad.clone())]).refused_early(4),
+        pair(
+            "slot 0's owner before slot 1's value",
+            order,
+            &[(2, integer(0)), (0, bad.clone())],
+        )
+        .refused_early(4),
         pair(
             "slot 0's value before slot 1's owner",
             order,
@@ -151,32 +169,49 @@ fn good_values() -> Vec<Case> {
         )
         .finishes(0, &[value])
     };
-    let mut last = vec![(0, integer(0)); 256];
-    last[255].1 = write_view(255);
-    let end: Vec<Bytes> = last.iter().map(|(_, value)| value.clone()).collect();
+    let last_of = |name, count: usize, view: Bytes| {
+        let mut end = vec![integer(0); count];
+        end[count / 2] = view;
+        let slots: Vec<(u8, Bytes)> = end.iter().map(|value| (0, value.clone())).collect();
+        case(name, "payload a slot number below m")
+            .store(store(&[1], &slots))
+            .finishes(0, &end)
+    };
     vec![
         good("value -1", integer(-1)),
         good("value least integer", integer(LEAST)),
         good("value greatest integer", integer(GREATEST)),
+        good("value false", truth(false)),
         good("value true", truth(true)),
         good("value read view", read_view(0)),
         good("value write view", write_view(0)),
-        case("value view of slot 255", "payload a slot number below m")
-            .store(store(&[1], &last))
-            .finishes(0, &end),
+        last_of("value read view of slot 5 of 6", 6, read_view(5)),
+        last_of("value write view of slot 5 of 6", 6, write_view(5)),
+        last_of("value view of slot 255", 256, write_view(255)),
     ]
 }
 
 fn bad_values() -> Vec<Case> {
     let bad = |name: &str, value| one_slot(name, "5 value ill-formed", value).refused_early(5);
+    let past_last = |name, count: i64| {
+        let mut slots = vec![(0, integer(0)); count as usize];
+        slots[1].1 = write_view(count);
+        case(name, "payload a slot number below m")
+            .store(store(&[1], &slots))
+            .refused_early(5)
+    };
     vec![
         bad("value kind 4", value(4, 0)),
         bad("value kind 255", value(255, 0)),
         bad("value truth 2", value(1, 2)),
         bad("value truth 1 in the second byte", value(1, 0x100)),
+        bad("value truth -1", value(1, -1)),
         bad("value read view of slot m", read_view(1)),
         bad("value write view of slot m", write_view(1)),
         bad("value view of slot 100 hexadecimal", read_view(0x100)),
-        bad("value view of slot -1", write_view(-1)),
+        bad("value read view of slot -1", read_view(-1)),
+        bad("value write view of slot -1", write_view(-1)),
+        past_last("value view of slot 6 of 6", 6),
+        past_last("value view of slot 256 of 256", 256),
     ]
 }

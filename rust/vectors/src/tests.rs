@@ -4,10 +4,10 @@
 use std::collections::BTreeSet;
 use std::fs;
 
-use second_runner::run;
+use second_runner::{check_store, run};
+use sheets::{integer, read_view, store, Call};
 
-use crate::case::{case, Case};
-use crate::common::{integer, read_view, store, Call};
+use crate::case::{case, Answer, Case};
 use crate::paper::{self, Verdict};
 use crate::{file, layout, list, LINES, LIST};
 
@@ -38,10 +38,30 @@ fn the_second_runner_answers_each_case_as_the_list_says() {
         } = &case.call;
         let lent = vec![LENT; case.output];
         let mut output = lent.clone();
-        let answer = run(store, programme, *rule, *budget, &mut output);
+        let given = run(store, programme, *rule, *budget, &mut output);
+        let answer = Answer {
+            number: given.number,
+            block: given.block,
+            offset: given.offset,
+            steps: given.steps,
+        };
         let about = format!("{}: {}", case.name, case.says);
         assert_eq!(answer, case.expected.answer, "{about}");
         assert_eq!(output, case.expected.end.unwrap_or(lent), "{about}");
+    }
+}
+
+/// A store sheet that a run refuses is refused by the check alone too, and by
+/// the same number; one that it does not, is not. 11 is judged before it.
+#[test]
+fn a_store_sheet_is_checked_as_a_run_judges_it() {
+    for case in list::cases() {
+        let number = match case.expected.answer.number {
+            11 => continue,
+            number @ 1..=5 => number,
+            _ => 0,
+        };
+        assert_eq!(check_store(&case.call.store), number, "{}", case.name);
     }
 }
 
@@ -103,13 +123,13 @@ fn a_case_has_the_bytes_that_the_program_reads() {
     let cases = [case("ab", "")
         .store(vec![0x51])
         .programme(vec![0x61, 0x62])
-        .rule(3)
-        .budget(0x0403_0201)
-        .output(0x0605)
+        .rule(0x0403_0201)
+        .budget(0x0807_0605)
+        .output(0x0A09)
         .refused(17, 1, 2, 3)];
     let bytes = [
         b"\x01\x00".as_slice(),
-        b"case\x02\x03\x01\x02\x03\x04\x05\x06\x01\x00\x02\x00",
+        b"case\x02\x01\x02\x03\x04\x05\x06\x07\x08\x09\x0A\x01\x00\x02\x00",
         b"ab\x51\x61\x62",
     ];
     assert_eq!(layout::list_bytes(&cases), bytes.concat());

@@ -12,6 +12,6 @@ pub const ORDER: [u32; 2] = [1 << CUSTOMER, 1 << CUSTOMER | 1 << LABORATORY];
 pub fn print_slots(store: &[u8], out: &[u8]) {
     let slots = end_store(store, out).expect("a finished run leaves an end store");
     for (number, slot) in slots.iter().enumerate() {
-        println!("slot {number}, owner {}: {}", slot.owner, slot.value);
+        println!("slot {number}, owner {}: {}", slot.owner(), slot.value());
     }
 }

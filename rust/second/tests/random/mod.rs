@@ -4,7 +4,7 @@
 // Each test file uses its own share of this.
 #![allow(dead_code)]
 
-use crate::common::*;
+use sheets::*;
 
 /// A fixed stream of numbers (xorshift), so that a failure comes again.
 pub struct Random(u64);
@@ -149,7 +149,7 @@ pub struct Parts {
     pub slots: Vec<(u8, Bytes)>,
     /// For each block its region byte and its code.
     pub blocks: Vec<(u8, Bytes)>,
-    pub rule: u8,
+    pub rule: u32,
     pub budget: u32,
 }
 

@@ -8,11 +8,12 @@
 //! store after each block, also of a run that is refused in a later one. Most
 //! blocks of `views_go_round` are of one step.
 
-mod common;
+mod play;
 mod random;
 
-use common::*;
+use play::*;
 use random::*;
+use sheets::*;
 
 /// How many programmes of each kind are played.
 const PROGRAMMES: u64 = 10_000;
@@ -34,7 +35,7 @@ fn region(block: &Block) -> u8 {
 
 /// What the slots hold at the start, and after each block that the run comes
 /// through.
-fn stores(parts: &Parts, rule: u8) -> Vec<Bytes> {
+fn stores(parts: &Parts, rule: u32) -> Vec<Bytes> {
     let whole = parts.call().rule(rule);
     let first = |count: usize| Call {
         programme: programme(&parts.blocks[..count]),
@@ -138,7 +139,7 @@ impl Met<'_> {
 /// their opening values after each block. Where only one does not, some finished
 /// run changes a protected slot: so the condition is needed, and such a change
 /// would be seen.
-fn protected_slots_are_kept<const N: usize>(rule: u8, conditions: fn(&Met) -> [bool; N]) {
+fn protected_slots_are_kept<const N: usize>(rule: u32, conditions: fn(&Met) -> [bool; N]) {
     let mut seen = Seen::default();
     let mut lost = [0; N];
     for parts in programmes() {

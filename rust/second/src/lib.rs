@@ -31,7 +31,7 @@ use crate::sheet::{ProgrammeSheet, Store, Table};
 
 /// Judges both sheets and the arguments, runs the blocks and, if they finish,
 /// writes the end store to `output`. A refusal leaves `output` untouched.
-pub fn run(store: &[u8], programme: &[u8], rule: u8, budget: u32, output: &mut [u8]) -> Answer {
+pub fn run(store: &[u8], programme: &[u8], rule: u32, budget: u32, output: &mut [u8]) -> Answer {
     match judge_and_run(store, programme, rule, budget, output) {
         Ok(finished) => finished,
         Err(refused) => refused,
@@ -52,7 +52,7 @@ pub fn check_store(store_sheet: &[u8]) -> u32 {
 fn judge_and_run(
     store: &[u8],
     programme: &[u8],
-    rule: u8,
+    rule: u32,
     budget: u32,
     output: &mut [u8],
 ) -> Result<Answer, Answer> {

@@ -2,12 +2,13 @@
 //! grammar, the same with bytes altered, and bytes without any form. Whatever
 //! comes, the runner answers within its contract.
 
-mod common;
+mod play;
 mod random;
 
-use common::*;
+use play::*;
 use random::*;
 use second_runner::{check_store, check_table, print, Answer};
+use sheets::*;
 
 /// Streams apart from those of the good calls, which start at 0.
 const ALTERED: u64 = 1 << 32;
@@ -86,7 +87,8 @@ fn block_length(call: &Call, block: u32) -> u32 {
 /// The printing program says what the run does, wherever it splits its input
 /// into the same two sheets.
 fn check_printed(call: &Call, answer: Answer, output: &[u8]) {
-    let arguments = join(&[&[call.rule], &call.budget.to_le_bytes()]);
+    let rule = u8::try_from(call.rule).expect("a rule byte");
+    let arguments = join(&[&[rule], &call.budget.to_le_bytes()]);
     let text = print(&join(&[&arguments, &call.store, &call.programme]));
     let text = String::from_utf8(text).expect("plain letters");
     assert!(text.starts_with("end ") && text.ends_with('\n'));
@@ -141,7 +143,8 @@ fn formless_bytes_are_answered() {
     let mut random = Random::stream(FORMLESS);
     for _ in 0..50_000 {
         let (one, two) = (random.bytes(40), random.bytes(40));
-        let (rule, length) = (random.next() as u8, random.below(30));
+        let length = random.below(30);
+        let rule = (random.next() as u32) >> (8 * random.below(4));
         let formless = call(&one, &two, rule).budget(random.next() as u32);
         let (answer, output) = formless.lend(length);
         assert!(answer.number <= 17);

@@ -8,7 +8,7 @@ use crate::sheet::{Slot, Store, StoreSizes};
 /// The printing program's input, split into what a run takes.
 #[derive(Debug, Clone, Copy)]
 pub struct Input<'a> {
-    rule: u8,
+    rule: u32,
     budget: u32,
     store: &'a [u8],
     programme: &'a [u8],
@@ -23,7 +23,7 @@ impl<'a> Input<'a> {
     /// None if there are "fewer than 5 bytes".
     fn split(bytes: &'a [u8]) -> Option<Input<'a>> {
         let mut rest = bytes;
-        let rule = number(take(&mut rest, Input::RULE_BYTES)?) as u8;
+        let rule = number(take(&mut rest, Input::RULE_BYTES)?) as u32;
         let budget = number(take(&mut rest, Input::BUDGET_BYTES)?) as u32;
         // "as long as its sizes say, or all the bytes left where these are
         // fewer or hold no sizes; the rest is programme"

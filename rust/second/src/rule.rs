@@ -41,14 +41,15 @@ pub(crate) enum RuleSet {
 }
 
 impl RuleSet {
-    const ACCESS_CONTROL: u8 = 0;
-    const CAPABILITY: u8 = 1;
-    const EXPLICIT_PROVENANCE: u8 = 2;
-    const FULL_PROVENANCE: u8 = 3;
+    const ACCESS_CONTROL: u32 = 0;
+    const CAPABILITY: u32 = 1;
+    const EXPLICIT_PROVENANCE: u32 = 2;
+    const FULL_PROVENANCE: u32 = 3;
     /// "Rule 255 is to mean rule 3." (document 02, N1)
-    const HOUSE: u8 = 255;
+    const HOUSE: u32 = 255;
 
-    pub fn from_number(number: u8) -> Option<RuleSet> {
+    /// 11 is "rule not 0, 1, 2, 3 or 255".
+    pub fn from_number(number: u32) -> Option<RuleSet> {
         match number {
             RuleSet::ACCESS_CONTROL => Some(RuleSet::AccessControl),
             RuleSet::CAPABILITY => Some(RuleSet::Capability),

@@ -3,12 +3,13 @@
 //! with a larger budget only if it was 17. What it becomes then is what
 //! docs/LADDER.md says: each of that comes up, and nothing else.
 
-mod common;
+mod play;
 mod random;
 
-use common::*;
+use play::*;
 use random::*;
 use second_runner::Answer;
+use sheets::*;
 
 /// How many calls of each kind are played.
 const CALLS: u64 = 6_000;
@@ -55,7 +56,7 @@ impl Became {
     }
 }
 
-fn from_rule_to_rule(strict: u8, mild: u8, own: u32) -> Became {
+fn from_rule_to_rule(strict: u32, mild: u32, own: u32) -> Became {
     let mut became = Became::default();
     for call in calls() {
         became.count(own, &call.rule(strict), &call.rule(mild));

@@ -1,0 +1,58 @@
+//! Parts of sheets that are within their limits.
+
+// Each test file uses its own share of this.
+#![allow(dead_code)]
+
+use muntyzhap::code::{literal, Code, Command, Expression};
+use muntyzhap::sheet::{programme_sheet, store_sheet, Block, Slot};
+use muntyzhap::{BuildError, Integer, Value};
+
+pub const LOW: u8 = 0;
+pub const HIGH: u8 = 1;
+/// Principal 1 stands above principal 0.
+pub const MASKS: [u32; 2] = [0b01, 0b11];
+
+#[track_caller]
+pub fn built<T>(part: Result<T, BuildError>) -> T {
+    part.expect("a part within its limits")
+}
+
+pub fn slot(owner: u8, value: Value) -> Slot {
+    built(Slot::new(owner, value))
+}
+
+/// One slot of each principal, with these integers.
+pub fn slots_of(integers: [Integer; 2]) -> [Slot; 2] {
+    let [low, high] = integers.map(Value::Integer);
+    [slot(LOW, low), slot(HIGH, high)]
+}
+
+/// Document 01's store: one slot of each principal, with the integers 5 and 7.
+pub fn slots() -> [Slot; 2] {
+    slots_of([5, 7])
+}
+
+pub fn store_of(masks: &[u32], slots: &[Slot]) -> Vec<u8> {
+    built(store_sheet(masks, slots))
+}
+
+pub fn block(region: u8, code: impl Into<Code>) -> Block {
+    built(Block::new(region, code))
+}
+
+pub fn programme_of(blocks: &[Block]) -> Vec<u8> {
+    built(programme_sheet(blocks))
+}
+
+/// A programme of one block.
+pub fn programme_by(region: u8, command: Command) -> Vec<u8> {
+    programme_of(&[block(region, command)])
+}
+
+pub fn integer(integer: Integer) -> Expression {
+    literal(Value::Integer(integer))
+}
+
+pub fn truth(truth: bool) -> Expression {
+    literal(Value::Truth(truth))
+}

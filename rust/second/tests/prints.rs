@@ -1,0 +1,170 @@
+//! The printing program: how it splits its input, and the lines that it
+//! prints.
+
+use second_runner::{print, Input};
+use sheets::*;
+
+const NO_PLACE: &str = "block 0 at 0 steps 0\n";
+
+fn input(rule: u8, budget: u32, store: &[u8], programme: &[u8]) -> Bytes {
+    join(&[&[rule], &budget.to_le_bytes(), store, programme])
+}
+
+#[track_caller]
+fn prints(input: &[u8], lines: &str) {
+    let printed = String::from_utf8(print(input)).expect("plain letters");
+    assert_eq!(printed, lines);
+}
+
+/// Refused ahead of the code: three zeros after the number.
+#[track_caller]
+fn prints_refusal(input: &[u8], number: u32) {
+    prints(input, &format!("end {number} {NO_PLACE}"));
+}
+
+/// The example's input and what it prints, byte for byte.
+#[test]
+fn the_stored_files_are_the_example() {
+    let example = input(0, 10, &example_store(), &example_programme([0, 1]));
+    let lines = "end 0 block 2 at 0 steps 2\n0 0 0 42\n1 1 0 42\n";
+    prints(&example, lines);
+    assert_eq!(
+        include_bytes!("../../../examples/two-blocks.bin")[..],
+        example
+    );
+    assert_eq!(
+        include_bytes!("../../../crates/blockrun/stdin")[..],
+        example
+    );
+    assert_eq!(include_str!("../../../crates/blockrun/stdout"), lines);
+}
+
+#[test]
+fn fewer_than_5_bytes_print_refusal_1() {
+    for length in 0..5 {
+        prints_refusal(&[0x00; 5][..length], 1);
+        prints_refusal(&[0xFE; 5][..length], 1);
+    }
+}
+
+#[test]
+fn from_5_bytes_on_the_arguments_are_judged_first() {
+    prints_refusal(&[4, 0, 0, 0, 0], 11);
+    prints_refusal(&[0, 0x41, 0x42, 0x0F, 0], 11);
+    prints_refusal(&[0, 0x40, 0x42, 0x0F, 0], 1);
+    prints_refusal(&[0, 0, 0, 0, 0, 33, 0], 1);
+    prints_refusal(&[0, 0, 0, 0, 0, 33, 0, 0], 2);
+}
+
+#[test]
+fn a_store_sheet_cut_short_takes_all_the_bytes() {
+    let sheet = example_store();
+    for length in 3..sheet.len() {
+        prints_refusal(&input(0, 10, &sheet[..length], &[]), 1);
+    }
+    prints_refusal(&input(0, 10, &sheet, &[]), 6);
+}
+
+/// Values of five bytes, as they were laid out before: the store sheet takes
+/// eight bytes of the programme's, which then says 4,129 bytes of code.
+#[test]
+fn values_of_five_bytes_are_refused_in_the_programme() {
+    let store = hex("02 0200 01000000 03000000 00 01 0005000000 0007000000");
+    let programme = "02 1B00 00 01 0D00 0E00 \
+        21 10 0300000000 10 002A000000 \
+        21 10 0301000000 11 10 0200000000";
+    prints_refusal(&input(0, 10, &store, &hex(programme)), 6);
+}
+
+#[test]
+fn values_of_each_kind_are_printed() {
+    let slots = [
+        (1, integer(-1)),
+        (0, integer(LEAST)),
+        (1, integer(GREATEST)),
+        (0, truth(false)),
+        (1, truth(true)),
+        (0, read_view(7)),
+        (1, write_view(0)),
+        (0, integer(0)),
+    ];
+    let sheet = store(&PAIR, &slots);
+    let lines = "end 0 block 0 at 0 steps 0\n\
+                 0 1 0 -1\n\
+                 1 0 0 -9223372036854775808\n\
+                 2 1 0 9223372036854775807\n\
+                 3 0 1 0\n\
+                 4 1 1 1\n\
+                 5 0 2 7\n\
+                 6 1 3 0\n\
+                 7 0 0 0\n";
+    prints(&input(3, 0, &sheet, &programme(&[])), lines);
+}
+
+/// From the sheet, and as a literal that a run writes.
+#[test]
+fn an_integer_is_printed_whole() {
+    let lines = [
+        (LEAST, "-9223372036854775808"),
+        (GREATEST, "9223372036854775807"),
+        (-17, "-17"),
+        (1_176_000_000_000, "1176000000000"),
+        (1 << 31, "2147483648"),
+        (-(1 << 31) - 1, "-2147483649"),
+        (1 << 32, "4294967296"),
+        ((1 << 32) - 1, "4294967295"),
+    ];
+    for (payload, line) in lines {
+        let sheet = store(&[1], &[(0, integer(payload)), (0, integer(0))]);
+        let code = programme(&[(0, set_integer(1, payload))]);
+        let text = format!("end 0 block 1 at 0 steps 1\n0 0 0 {line}\n1 0 0 {line}\n");
+        prints(&input(3, 1, &sheet, &code), &text);
+    }
+}
+
+#[test]
+fn a_refusal_prints_the_first_line_only() {
+    let sheet = store(&PAIR, &[(0, truth(true)), (1, integer(7))]);
+    let choice = if_else(slot(0), set_integer(1, 41), set_integer(1, 42));
+    let code = programme(&[(0, skip()), (1, choice)]);
+    let refused = "end 16 block 1 at 12 steps 1\n";
+    prints(&input(3, 10, &sheet, &code), refused);
+    let bad = programme(&[(0, skip()), (1, vec![0x22, 2, 0x20])]);
+    prints(&input(3, 10, &sheet, &bad), "end 9 block 1 at 3 steps 0\n");
+}
+
+#[test]
+fn the_budget_has_four_bytes_lowest_first() {
+    let code = programme(&[(0, while_do(literal(truth(true)), skip()))]);
+    let sheet = store(&[1], &[]);
+    let lines = "end 17 block 0 at 0 steps 66051\n";
+    prints(&input(0, 0x0001_0203, &sheet, &code), lines);
+}
+
+#[test]
+fn no_slots_print_no_slot_lines() {
+    let sheet = store(&[1], &[]);
+    let lines = "end 0 block 0 at 0 steps 0\n";
+    prints(&input(2, 0, &sheet, &programme(&[])), lines);
+}
+
+#[test]
+fn all_256_slots_are_printed() {
+    let sheet = store(&[1], &vec![(0, write_view(255)); 256]);
+    let lines: String = (0..256).map(|slot| format!("{slot} 0 3 255\n")).collect();
+    let first = "end 0 block 0 at 0 steps 0\n";
+    prints(
+        &input(0, 0, &sheet, &programme(&[])),
+        &format!("{first}{lines}"),
+    );
+}
+
+#[test]
+fn bytes_beyond_the_first_32768_are_not_read() {
+    assert_eq!(Input::MOST_BYTES, 32_768);
+    let good = input(0, 10, &example_store(), &example_programme([0, 1]));
+    let mut long = good.clone();
+    long.resize(100_000, 0);
+    prints_refusal(&long, 6);
+    assert_eq!(print(&long), print(&long[..32_768]));
+}

@@ -1,0 +1,52 @@
+//! A call of a runner, without the output.
+
+use crate::sheet::{programme, slots_said};
+use crate::value::OUTPUT_SLOT;
+use crate::Bytes;
+
+/// The numbers of the rules.
+pub const RULES: [u32; 5] = [0, 1, 2, 3, 255];
+/// Enough steps for any run here that isn't about the budget.
+pub const AMPLE: u32 = 1_000;
+
+#[derive(Clone)]
+pub struct Call {
+    pub store: Bytes,
+    pub programme: Bytes,
+    pub rule: u32,
+    pub budget: u32,
+}
+
+/// A call with ample steps.
+pub fn call(store: &[u8], programme: &[u8], rule: u32) -> Call {
+    Call {
+        store: store.to_vec(),
+        programme: programme.to_vec(),
+        rule,
+        budget: AMPLE,
+    }
+}
+
+/// A call with one block only.
+pub fn call_block(store: &[u8], region: u8, code: Bytes, rule: u32) -> Call {
+    call(store, &programme(&[(region, code)]), rule)
+}
+
+impl Call {
+    pub fn budget(&self, budget: u32) -> Call {
+        let mut call = self.clone();
+        call.budget = budget;
+        call
+    }
+
+    pub fn rule(&self, rule: u32) -> Call {
+        let mut call = self.clone();
+        call.rule = rule;
+        call
+    }
+
+    /// The length of the output that the store sheet asks for.
+    pub fn output_bytes(&self) -> usize {
+        OUTPUT_SLOT * slots_said(&self.store)
+    }
+}
