@@ -14,7 +14,8 @@ use Rattle.lattice.specs.Tests.{_and_, _or_, every}
 use Rattle.lattice.specs.declared.Table.{Table}
 use Rattle.lattice.specs.Order.{Label, mostPrincipals, below, top}
 use Rattle.lattice.proofs.Tests.{and-l, and-r, or-at, or-l, imp-of}
-use Rattle.lattice.proofs.Order.{Good, good-at, below-top}
+use Rattle.lattice.specs.Laws.{Good}
+use Rattle.lattice.proofs.Order.{good-at, below-top}
 use Rattle.store.specs.declared.Answer.{Answer}
 use Rattle.store.specs.Result.{Result, ok, _>>=_, require, refusedAs}
 use Rattle.store.specs.Bytes.{Bytes, numberAt, numberBytes, part}

@@ -9,8 +9,7 @@ use borrow.Author.Tests.{ltb-true, leb-true, lt-ltb, le-leb, eqb-true, eq-eqb}
 use Rattle.lattice.specs.Tests.{_and_}
 use Rattle.lattice.specs.declared.Table.{Table}
 use Rattle.lattice.specs.Order.{Label, mask, bit, below, inRange, reflexive, antisymmetric, transitive, isMeet, hasMeets, isTop, hasTop, good, meet, top}
-pub use Rattle.lattice.specs.Laws.{Below, Meets, Good}
-use Rattle.lattice.specs.Laws.{GoodTables}
+use Rattle.lattice.specs.Laws.{Below, Meets, Good, GoodTables}
 use Rattle.lattice.proofs.Tests.{and-l, and-r, and-of, imp-at, imp-of, iff, every-at, every-of, some-at, some-of, find-at}
 use Rattle.lattice.proofs.Bits.{bit-and, same-bits, bit-ones}
 
