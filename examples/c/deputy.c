@@ -72,7 +72,7 @@ static int untouched(const uint8_t *out, size_t length)
 }
 
 /* One run under a rule, and how it ended. */
-static void play(const struct block *blocks, uint8_t rule, const char *name)
+static void play(const struct block *blocks, uint32_t rule, const char *name)
 {
     const struct bytes store = store_sheet(slots, SLOTS);
     const struct bytes programme = programme_sheet(blocks, BLOCKS);
@@ -84,7 +84,7 @@ static void play(const struct block *blocks, uint8_t rule, const char *name)
     answer = muntyzhap_run(store.at, store.length, programme.at,
                            programme.length, rule, BUDGET, out, sizeof out,
                            &block, &offset, &steps);
-    printf("rule %d, %s\n", rule, name);
+    printf("rule %" PRIu32 ", %s\n", rule, name);
     if (answer == MUNTYZHAP_FINISHED) {
         printf("finished: %zu blocks, %" PRIu32 " steps\n", block, steps);
         print_slots(slots, SLOTS, out);

@@ -95,6 +95,8 @@ fn regions() -> Vec<Case> {
         region("region 82", 0x82).refused_early(8),
         region("region 7F", 0x7F).refused_early(8),
         region("region FF", 0xFF).refused_early(8),
+        region("region 20", 0x20).refused_early(8),
+        region("region A0", 0xA0).refused_early(8),
         case(
             "region of the second block",
             "8 in block order; length sum (6)",
