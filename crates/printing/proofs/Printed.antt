@@ -1,16 +1,64 @@
--- The worked examples of printed payloads hold by computation. Assumes nothing.
-use mathlib.Core.Path.{_≡_, refl}
-use mathlib.Core.List.{map}
-use Rattle.lattice.specs.Tests.{_and_}
+-- Laws of what is printed, part by part. Assumes nothing.
+use Prim.Native.Nat.{ℕ, _+_, _-_, _*_, _≤_, _<_}
+use mathlib.Core.Path.{_≡_, refl, sym, ap, _∙_}
+use mathlib.Core.List.{List}
+use native.Mathlib.Omega.{arith}
+use lib.ListN.{length, getD, take, drop, replicate, length-drop, length-replicate, replicate-append-replicate}
+use lib.Seq.{take-at, take-all}
+use borrow.Author.Tests.{lt-ltb, le-ltb}
+use Rattle.store.specs.Result.{unplaced}
 use Rattle.store.specs.Bytes.{numberAt}
-use Rattle.store.specs.Value.{valueAt}
-use Rattle.store.specs.Signed.{negative, magnitude}
-use Rattle.printing.specs.Printed.{Printed, prints, printed}
+use Rattle.store.specs.Value.{slotWidth}
+use Rattle.store.specs.Sheet.{mostSlots}
+use Rattle.calculus.specs.Run.{answer, output}
+use Rattle.printing.specs.Lines.{answerLine, lines}
+use Rattle.printing.specs.Printed.{mostInput, budgetWidth, headWidth, storeLength, slotsOf, lent, printedRun, printedSheets, printedRead, printed}
 
--- what the definitions print of an example's bytes
-abbrev shown : Printed → Printed
-shown p = prints (p .bytes) (negative (valueAt (p .bytes) 0)) (magnitude (valueAt (p .bytes) 0))
+take-replicate : (n k : ℕ) → n ≤ k → take {A = ℕ} n (replicate k 0) ≡ replicate n 0
+take-replicate n k h =
+    let e : n + (k - n) ≡ k = omega arith in
+    ap (λ (l : List ℕ). take n l) (sym (replicate-append-replicate n (k - n) 0 ∙ ap (λ (i : ℕ). replicate i 0) e))
+    ∙ take-at (replicate n 0) (replicate (k - n) 0) n (length-replicate n 0)
 
-pub printed-hold : map shown printed ≡ printed
-unfolding printed valueAt numberAt negative magnitude _and_
-printed-hold = refl
+-- what a slice lends from a place on
+pub from-there : (s : List ℕ) (n : ℕ) → take (length s - n) (drop n s) ≡ drop n s
+from-there s n = take-all (length s - n) (drop n s) (omega (arith, length-drop n s))
+
+-- the output that a run is lent is a part of the room for any
+pub part-lent : (m : ℕ) → m ≤ mostSlots → take (slotWidth * m) (lent mostSlots) ≡ lent m
+unfolding lent
+part-lent m h = take-replicate (slotWidth * m) (slotWidth * mostSlots) (omega arith)
+
+pub length-lent : (m : ℕ) → length (lent m) ≡ slotWidth * m
+unfolding lent
+length-lent m = length-replicate (slotWidth * m) 0
+
+pub run-lines : (rule budget : ℕ) (store programme old : List ℕ) (slots : ℕ) → slots ≡ slotsOf store → old ≡ lent slots
+    → lines (answer store programme rule budget (length old)) store slots (output store programme rule budget old)
+    ≡ printedRun rule budget store programme
+unfolding printedRun
+run-lines rule budget store programme old slots p q = rw (q, p) refl
+
+pub cut-sheets : (rule budget : ℕ) (s programme : List ℕ) (cut : ℕ) → cut ≡ storeLength s → programme ≡ drop cut s
+    → printedRun rule budget (take cut s) programme ≡ printedSheets rule budget s
+unfolding printedSheets
+cut-sheets rule budget s programme cut p q = rw (q, p) refl
+
+module _ (s : List ℕ) where
+  pub no-head : length s < headWidth → answerLine (unplaced 1) ≡ printedRead s
+  unfolding printedRead
+  no-head h = rw (printedRead, lt-ltb (length s) headWidth h)
+
+  pub with-head : headWidth ≤ length s → (budget : ℕ) (rest : List ℕ) → budget ≡ numberAt budgetWidth s 1 → rest ≡ drop headWidth s
+      → printedSheets (getD s 0 0) budget rest ≡ printedRead s
+  unfolding printedRead
+  with-head h budget rest p q = rw (printedRead, le-ltb (length s) headWidth h, p, q) refl
+
+  -- the bytes that are read: all, or the first
+  pub all-bytes : (n : ℕ) → length s ≤ mostInput → n ≡ length s → printedRead (take n s) ≡ printed s
+  unfolding printed
+  all-bytes n h p = ap printedRead (take-all n s (omega arith) ∙ sym (take-all mostInput s h))
+
+  pub first-bytes : (n : ℕ) → n ≡ mostInput → printedRead (take n s) ≡ printed s
+  unfolding printed
+  first-bytes n p = ap (λ (k : ℕ). printedRead (take k s)) p

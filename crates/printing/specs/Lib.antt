@@ -1,2 +1,5 @@
-pub mod Input
+pub mod Decimal
+pub mod Lines
 pub mod Printed
+pub mod Put
+pub mod Examples

@@ -1,30 +1,61 @@
--- How payloads are printed: worked examples as bytes. Assumes nothing.
-use Prim.Native.Nat.{ℕ}
-use mathlib.Core.Bool.{Bool, true, false}
-use mathlib.Core.List.{List, [], _∷_}
+-- Document 01, "The printing program": what is printed, for every standard input. Assumes nothing.
+use Prim.Native.Nat.{ℕ, _+_, _*_, min}
+use mathlib.Core.Bool.{true, false}
+use mathlib.Core.List.{List}
+use lib.ListN.{length, getD, take, drop, replicate}
+use lib.Dec.{ltb, leb}
+use Rattle.store.specs.Result.{unplaced}
+use Rattle.store.specs.Bytes.{numberAt}
+use Rattle.store.specs.Value.{slotWidth}
+use Rattle.store.specs.Sheet.{mostSlots, sizesWidth, nOf, mOf, storeForm, sheetLength}
+use Rattle.calculus.specs.Run.{answer, output}
+use Rattle.printing.specs.Lines.{answerLine, lines}
 
--- a value's bytes, whether it is printed with a minus sign, and the number after that
-pub record Printed : Type 0 where
-  pub bytes : List ℕ
-  pub minus : Bool
-  pub number : ℕ
+-- "It reads at most 32,768 bytes, more than any good input has."
+abbrev pub mostInput : ℕ
+mostInput = 32768
 
-abbrev pub prints : List ℕ → Bool → ℕ → Printed
-prints bytes minus number = record { bytes = bytes; minus = minus; number = number }
+-- "Standard input holds the rule byte, the budget in 4 bytes, the store sheet, the programme sheet."
+abbrev pub budgetWidth : ℕ
+budgetWidth = 4
 
-unfoldable pub printed : List Printed
-printed =
-    prints (0 ∷ 0 ∷ 0 ∷ 0 ∷ 0 ∷ 0 ∷ 0 ∷ 0 ∷ 0 ∷ []) false 0
-    ∷ prints (0 ∷ 0x2A ∷ 0 ∷ 0 ∷ 0 ∷ 0 ∷ 0 ∷ 0 ∷ 0 ∷ []) false 42
-    ∷ prints (0 ∷ 0xFF ∷ 0xFF ∷ 0xFF ∷ 0xFF ∷ 0xFF ∷ 0xFF ∷ 0xFF ∷ 0xFF ∷ []) true 1
-    -- the least integer, and the greatest
-    ∷ prints (0 ∷ 0 ∷ 0 ∷ 0 ∷ 0 ∷ 0 ∷ 0 ∷ 0 ∷ 0x80 ∷ []) true 9223372036854775808
-    ∷ prints (0 ∷ 0xFF ∷ 0xFF ∷ 0xFF ∷ 0xFF ∷ 0xFF ∷ 0xFF ∷ 0xFF ∷ 0x7F ∷ []) false 9223372036854775807
-    -- past the ends of 32 bits, on both sides
-    ∷ prints (0 ∷ 0 ∷ 0 ∷ 0 ∷ 0x80 ∷ 0 ∷ 0 ∷ 0 ∷ 0 ∷ []) false 2147483648
-    ∷ prints (0 ∷ 0xFF ∷ 0xFF ∷ 0xFF ∷ 0x7F ∷ 0xFF ∷ 0xFF ∷ 0xFF ∷ 0xFF ∷ []) true 2147483649
-    -- "Ratios scaled by 10 to the 12th": 1.176
-    ∷ prints (0 ∷ 0 ∷ 0xF0 ∷ 0x0F ∷ 0xCF ∷ 0x11 ∷ 1 ∷ 0 ∷ 0 ∷ []) false 1176000000000
-    -- a write view's payload is a slot number
-    ∷ prints (3 ∷ 0xFF ∷ 0 ∷ 0 ∷ 0 ∷ 0 ∷ 0 ∷ 0 ∷ 0 ∷ []) false 255
-    ∷ []
+abbrev pub headWidth : ℕ
+headWidth = 1 + budgetWidth
+
+-- "The store sheet is as long as its sizes say, or all the bytes left where these are fewer or hold no sizes; the rest is programme."
+unfoldable pub storeLength : List ℕ → ℕ
+storeLength s =
+    elim (ltb (length s) sizesWidth) [ true ↦ length s | false ↦ min (length s) (sheetLength storeForm (nOf s) (mOf s)) ]
+
+-- The slots of a store sheet that says no more than it may; one that says more is refused by 2, and has no end store.
+unfoldable pub slotsOf : List ℕ → ℕ
+slotsOf s = elim (leb (mOf s) mostSlots) [ true ↦ mOf s | false ↦ 0 ]
+
+-- The output that a run is lent: as many bytes as its slots take. What it holds is not printed.
+unfoldable pub lent : ℕ → List ℕ
+lent m = replicate (slotWidth * m) 0
+
+-- the lines of a run of both sheets
+unfoldable pub printedRun : ℕ → ℕ → List ℕ → List ℕ → List ℕ
+printedRun rule budget store programme =
+    lines
+    (answer store programme rule budget (length (lent (slotsOf store))))
+    store
+    (slotsOf store)
+    (output store programme rule budget (lent (slotsOf store)))
+
+-- the bytes after the rule and the budget are both sheets
+unfoldable pub printedSheets : ℕ → ℕ → List ℕ → List ℕ
+printedSheets rule budget s = printedRun rule budget (take (storeLength s) s) (drop (storeLength s) s)
+
+-- "Fewer than 5 bytes print refusal 1."
+unfoldable pub printedRead : List ℕ → List ℕ
+printedRead s =
+    elim (ltb (length s) headWidth) [
+      | true ↦ answerLine (unplaced 1)
+      | false ↦ printedSheets (getD s 0 0) (numberAt budgetWidth s 1) (drop headWidth s)
+    ]
+
+-- what is printed of a standard input, however long it is
+unfoldable pub printed : List ℕ → List ℕ
+printed input = printedRead (take mostInput input)

@@ -1,0 +1,37 @@
+-- The worked examples hold by computation. Assumes nothing.
+use mathlib.Core.Path.{_≡_, refl}
+use mathlib.Core.List.{map}
+use Rattle.lattice.specs.Tests.{_and_, _or_, _implies_, every, some, find}
+use Rattle.lattice.specs.Order.{bit, inRange, reflexive, antisymmetric, transitive, isMeet, hasMeets, isTop, hasTop, good, meet, top}
+use Rattle.store.specs.Result.{_>>=_, require, refusedAs, inTurn, unplaced}
+use Rattle.store.specs.Bytes.{numberAt, numberBytes, table, filled}
+use Rattle.store.specs.Value.{wellFormed, valueAt, valueBytes, opened, assigned, emptySlot, slotBytes}
+use Rattle.store.specs.Signed.{negative, magnitude}
+use Rattle.store.specs.Sheet.{orderOf, tablesOf, openingOf, valueWidthIn, valueGood, sizesAllowed, slotChecked, bodyChecked, sheetChecked, storeSheet, slotsBytes}
+use Rattle.programme.specs.Code.{readValue, exprByte, exprBy, readExpr, sorted, cmdByte, readCmds, readAssign, readSeq, readIf, readWhile, bodyBy, bodyTooDeep, readBody, readBlock}
+use Rattle.programme.specs.Sheet.{headerOf, startOf, headerGood, blockAt, blocksFrom, programmeSheet}
+use Rattle.calculus.specs.Rules.{rulesOf, judgesViews, judgesRegion, labelsJudged, allAbove}
+use Rattle.calculus.specs.Calculus.{inRegion, admit, fetch, eval, judge, authorised, reliable, permit, assignment, counted, written, performed, step, choose, loop, exec, execBody, execs}
+use Rattle.calculus.specs.Blocks.{haltAnswer, runBlocks, start}
+use Rattle.calculus.specs.Run.{runProgramme, runOpened, runUnder, run, answerOf, outputOf}
+use Rattle.printing.specs.Decimal.{decimalWithin}
+use Rattle.printing.specs.Lines.{field, answerLine, payloadField, slotLine, slotLines, lines}
+use Rattle.printing.specs.Printed.{storeLength, slotsOf, lent, printedRun, printedSheets, printedRead, printed}
+use Rattle.printing.specs.Examples.{Example, prints, played, shown, inputs, values}
+
+pub inputs-hold : map played inputs ≡ inputs
+unfolding inputs decimalWithin field answerLine payloadField slotLine slotLines lines negative magnitude
+    storeLength slotsOf lent printedRun printedSheets printedRead printed
+    runProgramme runOpened runUnder run answerOf outputOf
+    _and_ _or_ _implies_ every some find bit inRange reflexive antisymmetric transitive isMeet hasMeets isTop hasTop good meet top
+    _>>=_ require refusedAs inTurn unplaced numberAt numberBytes table filled wellFormed valueAt valueBytes opened assigned emptySlot slotBytes
+    orderOf tablesOf openingOf valueWidthIn valueGood sizesAllowed slotChecked bodyChecked sheetChecked storeSheet slotsBytes
+    readValue exprByte exprBy readExpr sorted cmdByte readCmds readAssign readSeq readIf readWhile bodyBy bodyTooDeep readBody readBlock
+    headerOf startOf headerGood blockAt blocksFrom programmeSheet
+    rulesOf judgesViews judgesRegion labelsJudged allAbove inRegion admit fetch eval judge authorised reliable permit assignment
+    counted written performed step choose loop exec execBody execs haltAnswer runBlocks start
+inputs-hold = refl
+
+pub values-hold : map shown values ≡ values
+unfolding values valueAt numberAt negative magnitude _and_ payloadField field decimalWithin
+values-hold = refl

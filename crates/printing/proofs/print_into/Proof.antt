@@ -1,0 +1,33 @@
+use borrow.Author.Needs.{needs}
+use Prim.Native.Nat.{ℕ}
+use mathlib.Core.Path.{ap₂}
+use mathlib.Core.List.{List}
+use native.Mathlib.Omega.{arith}
+use Rattle.store.specs.declared.Answer.{Answer}
+use Rattle.printing.specs.Lines.{lines}
+use Rattle.printing.specs.Put.{textRoom}
+use Rattle.printing.proofs.Put.{put-as}
+use Rattle.printing.proofs.print_into.Statement.{statement}
+use Rattle.printing.proofs.print_into.Tie as tie
+
+run-requires : tie.Need-run-requires
+run-requires c κs = search needs
+
+put-lines-requires : tie.Need-put-lines-requires
+put-lines-requires c κs = search needs
+
+same-length : tie.Need-same-length
+same-length c = search needs
+
+same-length-2 : tie.Need-same-length-2
+same-length-2 c = search needs
+
+returns : tie.Need-returns
+returns c =
+    let a = c .before .before .before .before .before .before .before .before .before .before .before .before .before .args in
+    let e = c .before .before .before .before .before .before .before .run .ensures in
+    put-as textRoom (ap₂ (λ (x : Answer) (y : List ℕ). lines x (a .store .now) (a .slots) y) (e .0) (e .1)) (omega arith) (c .before .before .put-lines .ensures)
+
+pub print-into-spec : {M : Type 1} → statement M
+print-into-spec =
+    tie.close (tie.spec run-requires put-lines-requires same-length same-length-2 returns)
