@@ -260,6 +260,15 @@ mod tests {
     }
 
     #[test]
+    fn a_wide_rule_number_that_never_comes_up_is_told() {
+        let complaints = Played::new().complaints();
+        for wide in WIDE {
+            let words = format!("rule numbers past a byte: {wide} never came up");
+            assert!(complaints.contains(&words), "{complaints:?}");
+        }
+    }
+
+    #[test]
     fn a_budget_that_never_comes_up_is_told() {
         let mut budgets = Budgets::default();
         budgets.count(4, 5);
