@@ -1,6 +1,5 @@
 -- The worked examples hold by computation. Assumes nothing.
-use mathlib.Core.Path.{_≡_, refl}
-use mathlib.Core.List.{map}
+use mathlib.Core.Path.{refl}
 use Rattle.lattice.specs.Tests.{_and_, _or_, _implies_, every, some, find}
 use Rattle.lattice.specs.Order.{bit, inRange, reflexive, antisymmetric, transitive, isMeet, hasMeets, isTop, hasTop, good, meet, top}
 use Rattle.store.specs.Result.{_>>=_, require, refusedAs, inTurn, unplaced}
@@ -17,9 +16,9 @@ use Rattle.calculus.specs.Run.{runProgramme, runOpened, runUnder, run, answerOf
 use Rattle.printing.specs.Decimal.{decimalWithin}
 use Rattle.printing.specs.Lines.{field, answerLine, payloadField, slotLine, slotLines, lines}
 use Rattle.printing.specs.Printed.{storeLength, slotsOf, lent, printedRun, printedSheets, printedRead, printed}
-use Rattle.printing.specs.Examples.{Example, prints, played, shown, inputs, values}
+use Rattle.printing.specs.Examples.{inputs, values, InputsHold, ValuesHold}
 
-pub inputs-hold : map played inputs ≡ inputs
+pub inputs-hold : InputsHold
 unfolding inputs decimalWithin field answerLine payloadField slotLine slotLines lines negative magnitude
     storeLength slotsOf lent printedRun printedSheets printedRead printed
     runProgramme runOpened runUnder run answerOf outputOf
@@ -32,6 +31,6 @@ unfolding inputs decimalWithin field answerLine payloadField slotLine slotLines 
     counted written performed step choose loop exec execBody execs haltAnswer runBlocks start
 inputs-hold = refl
 
-pub values-hold : map shown values ≡ values
+pub values-hold : ValuesHold
 unfolding values valueAt numberAt negative magnitude _and_ payloadField field decimalWithin
 values-hold = refl

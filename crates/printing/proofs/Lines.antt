@@ -57,6 +57,9 @@ module _ (a : Answer) (sheet : List ℕ) (m : ℕ) (out : List ℕ) where
   unfolding lines
   finished h = rw (lines, eq-eqb (a .number) 0 h)
 
+pub same-lines : (sheet : List ℕ) (m : ℕ) {a a′ : Answer} {out out′ : List ℕ} → a ≡ a′ → out ≡ out′ → lines a sheet m out ≡ lines a′ sheet m out′
+same-lines sheet m p q = rw (p, q) refl
+
 -- The loop over the slots stands before the i-th: the lines that are left, put from here, make up all of them.
 pub record Left (t₀ : List ℕ) (at : ℕ) (sheet out : List ℕ) (slots : ℕ) (t : List ℕ) (end i : ℕ) : Type 0 where
   pub done : i ≤ slots

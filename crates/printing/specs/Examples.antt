@@ -1,7 +1,8 @@
 -- Worked examples of what is printed. Assumes nothing.
 use Prim.Native.Nat.{ℕ}
 use Prim.Native.String.{String}
-use mathlib.Core.List.{List, [], _∷_, _++_}
+use mathlib.Core.Path.{_≡_}
+use mathlib.Core.List.{List, [], _∷_, _++_, map}
 use Rattle.store.specs.Value.{valueAt}
 use Rattle.calculus.specs.Vectors.{opening, two}
 use Rattle.printing.specs.Decimal.{ascii}
@@ -59,3 +60,9 @@ values =
     -- a write view's payload is a slot number
     ∷ prints (3 ∷ 0xFF ∷ 0 ∷ 0 ∷ 0 ∷ 0 ∷ 0 ∷ 0 ∷ 0 ∷ []) " 255"
     ∷ []
+
+abbrev pub InputsHold : Type 0
+InputsHold = map played inputs ≡ inputs
+
+abbrev pub ValuesHold : Type 0
+ValuesHold = map shown values ≡ values

@@ -3,3 +3,4 @@ pub mod Lines
 pub mod Printed
 pub mod Put
 pub mod Examples
+pub mod Promises

@@ -231,7 +231,7 @@ fn room() -> [u8; Opened::MOST_OUTPUT]
 // Runs both sheets into an output, and puts the run's lines.
 fn print_into(
     text: &mut [u8],
-    rule: u8,
+    rule: u32,
     budget: u32,
     store: &[u8],
     programme: &[u8],
@@ -252,7 +252,7 @@ fn print_into(
     put_lines(text, a, store, slots, out)
 }
 
-fn print_sheets(text: &mut [u8], rule: u8, budget: u32, store: &[u8], programme: &[u8]) -> usize
+fn print_sheets(text: &mut [u8], rule: u32, budget: u32, store: &[u8], programme: &[u8]) -> usize
     requires { ⌜ textRoom ≤ length (now text) ⌝ }
     ensures { λ r. ⌜
         Put (now (text .entry)) 0 (printedRun rule budget (now (store .entry)) (now (programme .entry))) textRoom r (now (text .exit))
@@ -273,7 +273,7 @@ fn print_sheets(text: &mut [u8], rule: u8, budget: u32, store: &[u8], programme:
 }
 
 // The bytes after the rule and the budget, cut where the store sheet ends.
-fn print_rest(text: &mut [u8], rule: u8, budget: u32, rest: &[u8]) -> usize
+fn print_rest(text: &mut [u8], rule: u32, budget: u32, rest: &[u8]) -> usize
     requires { ⌜ textRoom ≤ length (now text) ⌝ }
     ensures { λ r. ⌜
         Put (now (text .entry)) 0 (printedSheets rule budget (now (rest .entry))) textRoom r (now (text .exit))
@@ -297,7 +297,7 @@ fn print_read(text: &mut [u8], read: &[u8]) -> usize
         };
         return put_answer(text, a);
     }
-    let rule = read[0];
+    let rule = read[0] as u32;
     let budget = store::number_at(read, 1, Input::BUDGET) as u32;
     print_rest(text, rule, budget, &read[Input::HEAD..])
 }

@@ -1,12 +1,8 @@
 use borrow.Author.Needs.{needs}
-use Prim.Native.Nat.{ℕ}
-use mathlib.Core.Path.{ap₂}
-use mathlib.Core.List.{List}
 use native.Mathlib.Omega.{arith}
-use Rattle.store.specs.declared.Answer.{Answer}
-use Rattle.printing.specs.Lines.{lines}
 use Rattle.printing.specs.Put.{textRoom}
 use Rattle.printing.proofs.Put.{put-as}
+use Rattle.printing.proofs.Lines.{same-lines}
 use Rattle.printing.proofs.print_into.Statement.{statement}
 use Rattle.printing.proofs.print_into.Tie as tie
 
@@ -26,7 +22,7 @@ returns : tie.Need-returns
 returns c =
     let a = c .before .before .before .before .before .before .before .before .before .before .before .before .before .args in
     let e = c .before .before .before .before .before .before .before .run .ensures in
-    put-as textRoom (ap₂ (λ (x : Answer) (y : List ℕ). lines x (a .store .now) (a .slots) y) (e .0) (e .1)) (omega arith) (c .before .before .put-lines .ensures)
+    put-as textRoom (same-lines (a .store .now) (a .slots) (e .0) (e .1)) (omega arith) (c .before .before .put-lines .ensures)
 
 pub print-into-spec : {M : Type 1} → statement M
 print-into-spec =

@@ -22,6 +22,9 @@ returns c = put-as textRoom (no-head _ (c .before .before .before .before .if1 .
 shared-slice-read-rule : tie.Need-shared-slice-read-rule
 shared-slice-read-rule c = search needs
 
+cast-rule : tie.Need-cast-rule
+cast-rule c = omega (arith, c .shared-slice-known2 .given 0)
+
 number-at-requires : tie.Need-number-at-requires
 number-at-requires c κs = search needs
 
@@ -56,6 +59,7 @@ print-read-spec =
     same-length
     returns
     shared-slice-read-rule
+    cast-rule
     number-at-requires
     cast-budget
     sub-print-rest
