@@ -57,8 +57,8 @@ fn write_some(text: &[u8], done: usize) -> Moved
     Moved { bytes, failed }
 }
 
-// Says that a write took only a part.
-fn say_short(done: usize, size: usize) {
+// Says how much of the text is written.
+fn say_part(done: usize, size: usize) {
     let err = libc::STDERR_FILENO;
     io::write_all(err, b"blockrun: standard output: ");
     io::print_decimal(err, done as u64);
@@ -67,7 +67,8 @@ fn say_short(done: usize, size: usize) {
     io::write_all(err, b" bytes written\n");
 }
 
-// Writes the text, at once where the system takes it whole, until a write fails or takes nothing.
+// Writes the text, at once where the system takes it whole, until a write fails or takes nothing. What is written is told after each write
+// that took only a part: after the last one, that it is all.
 fn write_all(text: &[u8]) -> Moved
     ensures { λ r. ⌜ r .bytes ≤ length (now (text .entry)) ⌝ }
 {
@@ -80,8 +81,8 @@ fn write_all(text: &[u8]) -> Moved
             return put;
         }
         done += bytes;
-        if done < size {
-            say_short(done, size);
+        if bytes < size {
+            say_part(done, size);
         }
         if bytes == 0 {
             break;

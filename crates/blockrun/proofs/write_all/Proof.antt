@@ -24,8 +24,8 @@ returns c = omega arith
 add-done : tie.Need-add-done Inv-loop μ-loop
 add-done c = omega arith
 
-say-short-requires : tie.Need-say-short-requires Inv-loop μ-loop
-say-short-requires c κs = search needs
+say-part-requires : tie.Need-say-part-requires Inv-loop μ-loop
+say-part-requires c κs = search needs
 
 loop-less : tie.Need-loop-less Inv-loop μ-loop
 loop-less c = omega arith
@@ -49,7 +49,7 @@ write-all-spec =
     write-some-requires
     returns
     add-done
-    say-short-requires
+    say-part-requires
     loop-less
     loop-again
     returns-2
