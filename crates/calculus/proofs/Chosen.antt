@@ -95,7 +95,7 @@ module _ (own : Tainted tables 0 (ownerOf tables 1)) (within : withinReach table
         0 (λ t m i p. m .held i (p .above)))
 
   noninterference : Noninterference 1 tables 0 (sent 2)
-  noninterference store store′ s s′ opening opening′ agree q q′ _ _ r r′ out out′ x x′ i b =
+  noninterference store store′ s s′ _ _ opening opening′ agree q q′ _ _ r r′ out out′ x x′ i b =
       kept store s opening q out r x i b ∙ ap slotBytes (agree i b) ∙ sym (kept store′ s′ opening′ q′ out′ r′ x′ i b)
 
 -- the adversary may send another block 0
@@ -193,5 +193,5 @@ not-enough-under-capability h =
     let x = chosen-worked in
     let self : Replacement tables 0 (sent 2) (sent 2) = record { count = refl; each = λ i l. unchanged refl refl } in
     ⊎-elim controlled not-direct
-    (h 0 sheet (sent 2) tables slots (x .principal) (x .opens) (x .noninterference)
+    (h 0 sheet (sent 2) tables slots (x .principal) (bytes-of sheet refl) (x .opens) (x .noninterference)
     (sent 2) _ (bytes-of (sent 2) refl) self (x .first-run) 1 (x .inside))

@@ -83,7 +83,7 @@ module _ (rule : ℕ) (store : List ℕ) (w : Tables) (s : Store) (sheet : store
 
 -- Theorem 4
 pub capability-deputy-safety : CapabilityDeputySafety
-capability-deputy-safety a store p w s in-a sheet spare =
+capability-deputy-safety a store p w s in-a _ sheet spare =
     no-confused-deputy 1 store w s sheet a in-a p
     (kept-alike 1 store w s sheet a in-a p (λ q out r x.
     capability-safety a store q (x .budget) (x .old) (endGood 1 store w s sheet q out x) in-a (spare .0) (spare-left w a p q r (spare .1))))
@@ -98,7 +98,7 @@ capability-deputy-safety a store p w s in-a sheet spare =
 
 -- Theorem 5
 pub deputy-safety : DeputySafety
-deputy-safety a store p w s in-a sheet spare =
+deputy-safety a store p w s in-a _ sheet spare =
     no-confused-deputy 2 store w s sheet a in-a p
     (kept-alike 2 store w s sheet a in-a p (λ q out r x.
     provenance-safety a store q (x .budget) (x .old) (endGood 2 store w s sheet q out x) in-a (spare .0)
@@ -107,13 +107,13 @@ deputy-safety a store p w s in-a sheet spare =
 
 -- Theorem 7
 pub noninterference-suffices : NoninterferenceSuffices
-noninterference-suffices rule other a store p w s in-a sheet alike =
-    no-confused-deputy rule store w s sheet a in-a p (alike store store s s sheet sheet (λ i b. refl)) (others-low rule store w s sheet a in-a p other)
+noninterference-suffices rule other a store p w s in-a d sheet alike =
+    no-confused-deputy rule store w s sheet a in-a p (alike store store s s d d sheet sheet (λ i b. refl)) (others-low rule store w s sheet a in-a p other)
 
 -- Theorem 6, by the source's way: full provenance gives noninterference
 full-noninterference : (rule : ℕ) → FullRule rule → (w : Tables) (a : Label) (p : List ℕ) → a < w .order .n → NoneEndorsedOutside w a p
     → Noninterference rule w a p
-full-noninterference rule full w a p in-a bare store store′ s s′ sheet sheet′ agree q q′ _ _ r r′ out out′ x x′ =
+full-noninterference rule full w a p in-a bare store store′ s s′ _ _ sheet sheet′ agree q q′ _ _ r r′ out out′ x x′ =
     forth a store store′ w s s′ sheet sheet′ in-a agree p bare q q′ r r′ out out′
     (record { rule = rule; full = full; run = x }) (record { rule = rule; full = full; run = x′ })
 
@@ -122,8 +122,8 @@ full-not-1 rule (byNumber e) h = omega arith
 full-not-1 rule (byDefault e) h = omega arith
 
 pub full-deputy-safety : FullDeputySafety
-full-deputy-safety rule full a store p w s in-a sheet bare =
-    noninterference-suffices rule (full-not-1 rule full) a store p w s in-a sheet (full-noninterference rule full w a p in-a bare)
+full-deputy-safety rule full a store p w s in-a d sheet bare =
+    noninterference-suffices rule (full-not-1 rule full) a store p w s in-a d sheet (full-noninterference rule full w a p in-a bare)
 
 -- Theorem 7 from demand 3
 pub isolation-suffices : IsolationSuffices

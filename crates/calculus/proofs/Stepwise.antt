@@ -15,7 +15,7 @@ use Rattle.calculus.specs.Rules.{RuleSet}
 use Rattle.calculus.specs.Calculus.{Setting, State, Stop, counted, performed, stopAt, exec}
 use Rattle.calculus.specs.Blocks.{Halt, haltIn, setting, runBlocks, start}
 use Rattle.calculus.specs.Faithful.{Good}
-use Rattle.calculus.specs.Kept.{reached, stateWithin, runAfter, stateAfter, Task, judging, assigning, outcome, stepAt, Comes, Spent, Next, ended, refused, taken, forbidden, StepByStep}
+use Rattle.calculus.specs.Kept.{reached, stateWithin, runAfter, stateAfter, Task, judging, assigning, outcome, stepAt, Comes, OutOfBudget, Next, ended, refused, taken, forbidden, StepByStep}
 use Rattle.calculus.proofs.Steps.{Counted, exec-counts}
 use Rattle.calculus.proofs.Blocks.{run-counts}
 use Rattle.calculus.proofs.Twins.{Kind, After, goes-on, forbids, Beside, agree, apart, Twin, twin-ok, twin-bind, stops, Before, exec-twin}
@@ -52,7 +52,7 @@ module _ (w : Tables) (rules : RuleSet) (p : List ℕ) (k : ℕ) where
   abbrev ρ : Block → Setting
   ρ b = setting w rules k b
 
-  -- a run of the blocks from the i-th on, begun in s, is spent at h, in a block that it has entered, before a step that comes to x
+  -- a run of the blocks from the i-th on, begun in s, is out of budget at h, in a block that it has entered, before a step that comes to x
   record Due (i : ℕ) (bs : List Block) (s : State) (h : Halt) (x : Result ℕ State) : Type 0 where
     passed : ℕ
     block : Block
@@ -114,9 +114,9 @@ module _ {store programme : List ℕ} {rule budget room : ℕ} (g : Good store p
   runs : (k m : ℕ) → Twin halts m k 0 (DueAt k) (runBlocks w (g .rules) k 0 (g .blocks)) (runBlocks w (g .rules) m 0 (g .blocks))
   runs k m = run-twin w (g .rules) programme k m 0 (g .blocks) (post-at _ _ _ _ (programme-placed _ _ programme) (g .taken))
 
-  spent-at : (k : ℕ) (h : Halt) (x : Result ℕ State) → runAfter g k ≡ refuse h → DueAt k opened h x → Spent g k
+  out-at : (k : ℕ) (h : Halt) (x : Result ℕ State) → runAfter g k ≡ refuse h → DueAt k opened h x → OutOfBudget g k
   unfolding blockAt refusedAs _>>=_
-  spent-at k h x e d =
+  out-at k h x e d =
       let n : h .block ≡ d .passed = omega (arith, d .number) in
       record {
         number = h .block;
@@ -131,16 +131,16 @@ module _ {store programme : List ℕ} {rule budget room : ℕ} (g : Good store p
       }
 
   next-run : (k : ℕ) (r r′ : Result Halt State) → runAfter g k ≡ r → Beside halts (k + 1) k (DueAt k opened) r r′ → Next g k r′
-  unfolding Post spent-at
+  unfolding Post out-at
   next-run k (ok s) r′ e (agree d o) = rw (← d) (ended e)
   next-run k (refuse h) r′ e (agree d o) = rw (← d) (refused e (o .0) (o .1))
   next-run k r r′ e (apart h x d q a) = after x q a
     where
       after : (x : Result ℕ State) → DueAt k opened h x → After halts (k + 1) h r′ x → Next g k r′
       after (ok t) q (goes-on l still) =
-          taken (spent-at k h (ok t) (e ∙ d) q)
+          taken (out-at k h (ok t) (e ∙ d) q)
           (q .before .comes-to ∙ ap ok (sym (at-reached (λ u. u ≡ t) r′ still)))
-      after (refuse n) q (forbids y) = rw y (forbidden (spent-at k h (refuse n) (e ∙ d) q) (q .before .comes-to))
+      after (refuse n) q (forbids y) = rw y (forbidden (out-at k h (refuse n) (e ∙ d) q) (q .before .comes-to))
 
   kept : (k : ℕ) → stateAfter g k .steps ≤ k
   unfolding stateWithin start

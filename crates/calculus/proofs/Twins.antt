@@ -107,7 +107,7 @@ unspent w =
     }
 
 module _ (w : Setting) where
-  -- it is spent at e, where it has come from s by C, before a step that comes to x
+  -- it is out of budget at e, where it has come from s by C, before a step that comes to x
   pub record Before (C : State → Place → Type 0) (s : State) (e : Stop) (x : Result ℕ State) : Type 0 where
     pub task : Task
     pub comes : C s (stepAt (e .offset) (e .state) task)
@@ -153,11 +153,11 @@ module _ (w : Setting) (m : ℕ) where
     abbrev go′ : State → Result ℕ A → Result Stop State
     go′ s x = step w′ at s x >>= λ a. f′ a (to a s)
 
-    -- the first run is spent
-    spent-here : m ≡ w .budget + 1 → (s : State) → s .steps ≡ w .budget → (x : Result ℕ A) → r s ≡ x
+    -- the first run is out of budget
+    out-here : m ≡ w .budget + 1 → (s : State) → s .steps ≡ w .budget → (x : Result ℕ A) → r s ≡ x
         → Beside stops m (w .budget) (Before w C s) (go s x) (go′ s x)
     unfolding step require refusedAs _>>=_
-    spent-here d s e x q =
+    out-here d s e x q =
         rw (eq-eqb (s .steps) (w .budget) e, ne-eqb (s .steps) m (λ y. omega arith))
         (apart (stopAt at s 17) (x >>= λ a. ok (to a s)) refl
         (record { task = task; comes = here s; spent = refl; done = e; comes-to = comes-to s ∙ rw q }) (after x q))
@@ -185,7 +185,7 @@ module _ (w : Setting) (m : ℕ) where
     twin-step =
         record {
           near = λ d s h. rw (← same s) (cases (eqb (s .steps) (w .budget))
-              (λ e. spent-here d s (eqb-true (s .steps) (w .budget) e) (r s) refl)
+              (λ e. out-here d s (eqb-true (s .steps) (w .budget) e) (r s) refl)
               (λ e. goes-here d s h (omega (arith, h .kept, eqb-false (s .steps) (w .budget) e)) (r s) refl));
           far = λ t e. rw (eq-eqb (t .steps) m e) (post-refuse _ _ _ refl);
         }

@@ -121,5 +121,5 @@ whole-run-not-safe h =
     let x = whole-worked in
     let self : Replacement tables 0 (sent 1) (sent 1) = record { count = refl; each = λ i l. unchanged refl refl } in
     ⊎-elim controlled not-direct
-    (h 0 sheet (sent 1) tables slots (x .principal) (x .opens) (x .slots-spare, x .blocks-spare)
+    (h 0 sheet (sent 1) tables slots (x .principal) (bytes-of sheet refl) (x .opens) (x .slots-spare, x .blocks-spare)
     (sent 1) _ (bytes-of (sent 1) refl) self (x .left-run) 1 (x .protected .inside))

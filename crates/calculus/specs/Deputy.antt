@@ -44,7 +44,8 @@ ProvenanceSafety =
     → ProtectedKept adversary store programme 2 budget old g
 
 -- No confused deputy. Definition 1's context is a programme p with the adversary's code left open: it stands for its replacements. They
--- are sheets, so lists of bytes, as in demand 3.
+-- are sheets, so lists of bytes, as in demand 3. The source speaks of the slots that an attacker is after, a set that it leaves open; here they
+-- are all slots.
 
 -- slot i of two outputs has the same value
 abbrev pub ValueAlike : ℕ → List ℕ → List ℕ → Type 0
@@ -75,6 +76,7 @@ abbrev pub Prevents : ℕ → (Tables → Label → Store → List ℕ → Type 
 Prevents rule Condition =
     (adversary : Label) (store p : List ℕ) (w : Tables) (s : Store)
     → adversary < w .order .n
+    → Bytes store
     → storeSheet store ≡ ok (record { tables = w; store = s })
     → Condition w adversary s p
     → NoConfusedDeputy rule w adversary store p
@@ -91,6 +93,7 @@ EndAlike rule w adversary p store store′ =
 abbrev pub Noninterference : ℕ → Tables → Label → List ℕ → Type 0
 Noninterference rule w adversary p =
     (store store′ : List ℕ) (s s′ : Store)
+    → Bytes store → Bytes store′
     → storeSheet store ≡ ok (record { tables = w; store = s })
     → storeSheet store′ ≡ ok (record { tables = w; store = s′ })
     → StoresAgree w adversary s s′

@@ -100,7 +100,7 @@ from1to0 =
     ∷ under 1 0 opening (both 0 keepView 0 (while 1)) (refused 15 0 0 0) (refused 17 1 0 10)
     ∷ []
 
--- A larger budget. The run is spent at a step; with more steps allowed, that step is judged.
+-- A larger budget. The run is out of budget at a step; with more steps allowed, that step is judged.
 unfoldable pub larger : List Example
 larger =
     -- D17, 17 becomes 0: the only step is allowed, and the run finishes (P11).

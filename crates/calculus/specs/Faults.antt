@@ -6,7 +6,7 @@ use Rattle.calculus.specs.Descents.{noGuard}
 
 unfoldable pub faults : List Vector
 faults =
-    -- 17 and not 13: the budget is spent before a guard that is no truth value.
+    -- 17 and not 13: the run is out of budget before a guard that is no truth value.
     runs 0 0 opening (one 0 noGuard) (says 17 0 0 0) blank
     -- 13 and not 15: the target is no write view, and the value is one that the region may not hold.
     ∷ runs 1 10 opening (one 0 (assign (int 5) (lit (writes 1)))) (says 13 0 0 0) blank

@@ -94,7 +94,7 @@ module _ (w : Setting) where
 module _ {store programme : List ℕ} {rule budget room : ℕ} (g : Good store programme rule budget room) (k : ℕ) where
   -- "Before each step, if steps done equal the budget, the run is spent": k steps are done, and in a block of the sheet, which the run has
   -- entered with the top label, one more is next
-  pub record Spent : Type 0 where
+  pub record OutOfBudget : Type 0 where
     pub number : ℕ
     pub block : Block
     pub entry : State
@@ -106,16 +106,16 @@ module _ {store programme : List ℕ} {rule budget room : ℕ} (g : Good store p
     pub stops : runAfter g k ≡ refuse (haltIn number (stopAt (place .offset) (place .state) 17))
 
   -- what the step that is next comes to
-  abbrev pub due : Spent → Result ℕ State
+  abbrev pub due : OutOfBudget → Result ℕ State
   due p = outcome (setting (g .opening .tables) (g .rules) k (p .block)) (p .place .state) (p .place .task)
 
-  -- The run that k + 1 steps are allowed: the same, where it had ended, or after fewer than k steps the rules forbade one; where it was spent,
+  -- The run that k + 1 steps are allowed: the same, where it had ended, or after fewer than k steps the rules forbade one; where it was out of budget,
   -- it is on by the step that is next, or the rules forbid that one there: "A forbidden step is not counted."
   pub data Next : Result Halt State → Type 0 where
     ended : {s : State} → runAfter g k ≡ ok s → Next (ok s)
     refused : {h : Halt} → runAfter g k ≡ refuse h → (h .stop .number ≡ 17 → ⊥) → h .stop .state .steps < k → Next (refuse h)
-    taken : {r : Result Halt State} (p : Spent) → due p ≡ ok (reached r) → Next r
-    forbidden : {n : ℕ} (p : Spent) → due p ≡ refuse n → Next (refuse (haltIn (p .number) (stopAt (p .place .offset) (p .place .state) n)))
+    taken : {r : Result Halt State} (p : OutOfBudget) → due p ≡ ok (reached r) → Next r
+    forbidden : {n : ℕ} (p : OutOfBudget) → due p ≡ refuse n → Next (refuse (haltIn (p .number) (stopAt (p .place .offset) (p .place .state) n)))
 
 -- The run goes step by step from the opening store on, each time by the step that is next. The steps done are the smaller of those allowed
 -- and the run's own.

@@ -33,12 +33,16 @@ unfoldable pub inputs : List Example
 inputs =
     -- "It prints: .."
     prints (sample 0 1) "end 0 block 2 at 0 steps 2\n0 0 0 42\n1 1 0 42\n"
+    ∷ prints (sample 3 0x81) "end 0 block 2 at 0 steps 2\n0 0 0 42\n1 1 0 42\n"
     -- "A refusal prints line 1 only."
     ∷ prints (sample 2 1) "end 16 block 1 at 0 steps 1\n"
     ∷ prints (sample 4 1) "end 11 block 0 at 0 steps 0\n"
     -- "Fewer than 5 bytes print refusal 1."
     ∷ prints (0 ∷ 10 ∷ 0 ∷ 0 ∷ []) "end 1 block 0 at 0 steps 0\n"
     ∷ prints [] "end 1 block 0 at 0 steps 0\n"
+    -- "or all the bytes left where these are fewer or hold no sizes": a store sheet of two bytes, and one that lacks its last
+    ∷ prints (0 ∷ 10 ∷ 0 ∷ 0 ∷ 0 ∷ 1 ∷ 0 ∷ []) "end 1 block 0 at 0 steps 0\n"
+    ∷ prints (0 ∷ 10 ∷ 0 ∷ 0 ∷ 0 ∷ 1 ∷ 0 ∷ 0 ∷ 1 ∷ 0 ∷ 0 ∷ []) "end 1 block 0 at 0 steps 0\n"
     -- 257 slots: refused by 2
     ∷ prints (0 ∷ 10 ∷ 0 ∷ 0 ∷ 0 ∷ 1 ∷ 1 ∷ 1 ∷ 1 ∷ 0 ∷ 0 ∷ 0 ∷ []) "end 2 block 0 at 0 steps 0\n"
     ∷ []

@@ -42,10 +42,6 @@ impl Text {
     pub const SLOT: usize = 1 + 1 + 2 + 1 + 4 * Text::PLACES;
 
     pub const MOST: usize = Text::ANSWER + Text::SLOT * Opened::MOST_SLOTS;
-    // The least payload of a negative integer, and the largest payload.
-    pub const SIGN: u64 = 1 << (8 * Value::PAYLOAD - 1);
-
-    pub const LARGEST: u64 = Text::SIGN - 1 + Text::SIGN;
 }
 
 fn wide(x: u8) -> u64
@@ -121,7 +117,7 @@ fn is_negative(v: Value) -> bool
     let kind = v.kind;
     let payload = v.payload;
     if kind == Value::INTEGER {
-        Text::SIGN <= payload
+        Value::SIGN <= payload
     } else {
         false
     }
@@ -133,7 +129,7 @@ fn magnitude_of(v: Value) -> u64
 {
     let payload = v.payload;
     if is_negative(v) {
-        Text::LARGEST - payload + 1
+        Value::LARGEST - payload + 1
     } else {
         payload
     }

@@ -38,6 +38,10 @@ impl Value {
     pub const PAYLOAD: usize = 8;
     // The bytes of a value.
     pub const WIDTH: usize = 1 + Value::PAYLOAD;
+    // The least payload of a negative integer, and the largest payload.
+    pub const SIGN: u64 = 1 << (8 * Value::PAYLOAD - 1);
+
+    pub const LARGEST: u64 = Value::SIGN - 1 + Value::SIGN;
 }
 
 // What a store sheet opens: its tables, or the number of its refusal.
