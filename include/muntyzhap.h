@@ -80,8 +80,8 @@ extern "C" {
 #define MUNTYZHAP_CAPABILITY 1
 #define MUNTYZHAP_EXPLICIT_PROVENANCE 2
 #define MUNTYZHAP_FULL_PROVENANCE 3
-/* The house rule: full provenance. */
-#define MUNTYZHAP_HOUSE 255
+/* The default rule, which document 01 calls the house rule: full provenance. */
+#define MUNTYZHAP_DEFAULT 255
 
 /* Limits */
 

@@ -1,7 +1,7 @@
 /* A confused deputy. The customer says where its result shall go and names a
  * slot of the laboratory's. The laboratory's block may write there: under
- * access control it does; under full provenance it is refused by 16, and so it
- * is under the house rule, which the sample desk sends. */
+ * access control it does; under full provenance, the default rule, it is
+ * refused by 16. */
 #include "sheets.h"
 
 #include <inttypes.h>
@@ -104,6 +104,6 @@ int main(void)
 
     play(blocks, MUNTYZHAP_ACCESS_CONTROL, "access control");
     play(blocks, MUNTYZHAP_FULL_PROVENANCE, "full provenance");
-    play(blocks, MUNTYZHAP_HOUSE, "the house rule");
+    play(blocks, MUNTYZHAP_DEFAULT, "the default rule");
     return EXIT_SUCCESS;
 }

@@ -45,7 +45,7 @@ static void try_rules(const struct bytes *programme)
 
 static void try_null(const struct bytes *programme)
 {
-    const int rule = MUNTYZHAP_HOUSE;
+    const int rule = MUNTYZHAP_DEFAULT;
     uint8_t out[SLOTS * MUNTYZHAP_VALUE_BYTES];
     size_t block, offset;
     uint32_t steps;

@@ -1,7 +1,7 @@
 //! A confused deputy. The customer says where its result shall go and names a
 //! slot of the laboratory's. The laboratory's block may write there: under
-//! access control it does; under full provenance it is refused by 16, and so it
-//! is under the house rule, which the sample desk sends.
+//! access control it does; under full provenance, the default rule, it is
+//! refused by 16.
 
 mod laboratory;
 
@@ -44,7 +44,7 @@ fn programme() -> Result<Vec<u8>, BuildError> {
 
 fn main() -> Result<(), BuildError> {
     let (store, programme) = (store()?, programme()?);
-    for rule in [Rule::AccessControl, Rule::FullProvenance, Rule::House] {
+    for rule in [Rule::AccessControl, Rule::FullProvenance, Rule::Default] {
         let mut out = vec![BEFORE; output_bytes(&store)];
         println!("rule {}, {rule}", rule.number());
         match run(&store, &programme, rule, BUDGET, &mut out) {

@@ -1,6 +1,6 @@
 //! The laboratory's reporter: runs a customer's block and then the
 //! laboratory's, and reads the end store. It copies the customer's value up, so
-//! it sends rule 0, access control: under the house rule, full provenance, it
+//! it sends rule 0, access control: under the default rule, full provenance, it
 //! would be refused by 16.
 
 mod laboratory;

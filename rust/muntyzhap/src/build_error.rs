@@ -4,7 +4,7 @@ use std::error::Error;
 use std::fmt::{self, Display, Formatter};
 
 use crate::code::{FEWEST_COMMANDS, MOST_COMMANDS, MOST_DEPTH, MOST_READS};
-use crate::sheet::{MOST_BLOCKS, MOST_CODE, MOST_PRINCIPALS, MOST_SLOTS};
+use crate::sheet::{Block, MOST_BLOCKS, MOST_CODE, MOST_PRINCIPALS, MOST_SLOTS};
 
 /// Why no sheet, or no part of one, was built. Each says the number that is
 /// wrong, and its limit.
@@ -66,8 +66,13 @@ impl Display for BuildError {
     fn fmt(&self, out: &mut Formatter) -> fmt::Result {
         let last = MOST_PRINCIPALS - 1;
         match self {
-            BuildError::Region(region) =>
-                write!(out, "region {region} is no principal's number, which is 0 to {last}"),
+            BuildError::Region(region) => {
+                write!(out, "region {region} is no principal's number, which is 0 to {last}")?;
+                match *region >= Block::ENDORSED {
+                    true => out.write_str("; an endorsed block is made by `Block::endorsed`"),
+                    false => Ok(()),
+                }
+            }
             BuildError::Owner(owner) =>
                 write!(out, "owner {owner} is no principal's number, which is 0 to {last}"),
             BuildError::Principals(count) =>

@@ -18,8 +18,9 @@ pub enum Rule {
     ExplicitProvenance = 2,
     /// Explicit provenance, and the label of the branch likewise.
     FullProvenance = 3,
-    /// The house rule: full provenance.
-    House = 255,
+    /// The default rule, which document 01 calls the house rule: full
+    /// provenance.
+    Default = 255,
 }
 
 impl Rule {
@@ -29,7 +30,7 @@ impl Rule {
         Rule::Capability,
         Rule::ExplicitProvenance,
         Rule::FullProvenance,
-        Rule::House,
+        Rule::Default,
     ];
 
     /// The number of this rule set.
@@ -51,7 +52,7 @@ impl Display for Rule {
             Rule::Capability => "capability",
             Rule::ExplicitProvenance => "explicit provenance",
             Rule::FullProvenance => "full provenance",
-            Rule::House => "the house rule",
+            Rule::Default => "the default rule",
         })
     }
 }

@@ -148,6 +148,15 @@ pub fn end_store(store: &[u8], out: &[u8]) -> Option<Vec<Slot>> {
 /// It is made by its constructors alone, so a block that was not endorsed never
 /// runs endorsed:
 ///
+/// ```
+/// # use muntyzhap::{code::skip, sheet::Block};
+/// let block = Block::new(1, skip())?;
+/// assert!(!block.is_endorsed());
+/// # Ok::<(), muntyzhap::BuildError>(())
+/// ```
+///
+/// and not by its parts:
+///
 /// ```compile_fail,E0451
 /// # use muntyzhap::{code::skip, sheet::Block};
 /// let block = Block { region: 0x81, endorsed: false, code: skip().into() };

@@ -12,6 +12,7 @@ use muntyzhap::sheet::{
 };
 use muntyzhap::{check_programme, check_store, BuildError, Refusal, Value};
 use parts::*;
+use sheets::chain;
 
 /// Judged for a store of two principals and two slots.
 fn check(command: Command) -> Result<(), Refusal> {
@@ -42,8 +43,17 @@ fn a_region_is_a_principal_s_number() {
             }
         }
     }
-    let words = "region 129 is no principal's number, which is 0 to 31";
-    assert_told(BuildError::Region(0x81), words);
+    for region in [32, 0x7F] {
+        let words = format!("region {region} is no principal's number, which is 0 to 31");
+        assert_told(BuildError::Region(region), &words);
+    }
+    for region in [0x80, 0x81, 0xFF] {
+        let words = format!(
+            "region {region} is no principal's number, which is 0 to 31; \
+             an endorsed block is made by `Block::endorsed`"
+        );
+        assert_told(BuildError::Region(region), &words);
+    }
 }
 
 /// Whatever the region, its byte says whether the block is endorsed as the block
@@ -69,12 +79,6 @@ fn an_owner_is_a_principal_s_number() {
     }
     let words = "owner 32 is no principal's number, which is 0 to 31";
     assert_told(BuildError::Owner(32), words);
-}
-
-/// Each principal stands above those before.
-fn chain(principals: usize) -> Vec<u32> {
-    let principals = 0..principals as u32;
-    principals.map(|last| u32::MAX >> (31 - last)).collect()
 }
 
 #[test]

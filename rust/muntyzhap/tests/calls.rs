@@ -159,9 +159,13 @@ fn an_end_store_is_read_only_where_every_length_is_right() {
     assert_eq!(end_store(&store[..2], &[]), None, "a size is missing");
     let ill_formed = [9; OUTPUT];
     assert_eq!(end_store(&store, &ill_formed), None);
-    let mut stranger = store.clone();
-    stranger[3 + 4 * 2] = 32;
-    assert_eq!(end_store(&stranger, &good), None, "no principal's number");
+    let mut unknown_owner = store.clone();
+    unknown_owner[3 + 4 * 2] = 32;
+    assert_eq!(
+        end_store(&unknown_owner, &good),
+        None,
+        "no principal's number"
+    );
 }
 
 #[test]
@@ -195,8 +199,8 @@ fn table_sheets_are_judged() {
     let table = [vec![2, 1, 0], store()[3..11].to_vec(), vec![HIGH]].concat();
     assert_eq!(check_table(&table), Ok(()));
     assert_eq!(check_table(&table[..11]), Err(Refusal::StoreLength));
-    let stranger = [&table[..11], &[2]].concat();
-    assert_eq!(check_table(&stranger), Err(Refusal::Owner));
+    let unknown_owner = [&table[..11], &[2]].concat();
+    assert_eq!(check_table(&unknown_owner), Err(Refusal::Owner));
 }
 
 #[test]
@@ -242,7 +246,7 @@ fn arguments_are_judged() {
     assert!(answer(&store, &programme, Rule::AccessControl, MOST_BUDGET).is_ok());
     for length in [0, OUTPUT - 1, OUTPUT + 1] {
         let mut out = vec![UNTOUCHED; length];
-        let refused = run(&store, &programme, Rule::House, 10, &mut out);
+        let refused = run(&store, &programme, Rule::Default, 10, &mut out);
         assert_eq!(refused, Err(Refusal::OutputLength));
         assert!(out.iter().all(|byte| *byte == UNTOUCHED));
     }
@@ -282,7 +286,7 @@ fn a_step_that_is_forbidden_is_refused_at_its_place() {
     let expected = Err(Refusal::ProvenanceTooLow(stop(1, 0, 1)));
     assert_eq!(ran(&two_blocks(), Rule::ExplicitProvenance), expected);
     assert_eq!(ran(&two_blocks(), Rule::FullProvenance), expected);
-    assert_eq!(ran(&two_blocks(), Rule::House), expected);
+    assert_eq!(ran(&two_blocks(), Rule::Default), expected);
 
     let endless = built(while_command(truth(true), skip()));
     let spent = answer(

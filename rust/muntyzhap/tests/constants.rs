@@ -76,7 +76,7 @@ fn rules_and_limits() -> Vec<(&'static str, u64)> {
         ("CAPABILITY", Rule::Capability),
         ("EXPLICIT_PROVENANCE", Rule::ExplicitProvenance),
         ("FULL_PROVENANCE", Rule::FullProvenance),
-        ("HOUSE", Rule::House),
+        ("DEFAULT", Rule::Default),
     ];
     let limits = [
         ("MOST_PRINCIPALS", MOST_PRINCIPALS),

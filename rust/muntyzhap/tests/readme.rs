@@ -5,15 +5,20 @@ use muntyzhap::{check_store, Refusal};
 const README: &str = include_str!("../../../README.md");
 const CRATE: &str = include_str!("../src/lib.rs");
 
-/// The indented lines that follow these words, without their indentation.
+/// The indented lines from the first that starts so, without their indentation.
+fn indented_from<'a>(lines: impl Iterator<Item = &'a str>, start: &str) -> Vec<&'a str> {
+    let indented = |line: &&str| line.starts_with("    ");
+    let start = format!("    {start}");
+    let from = lines.skip_while(|line| !line.starts_with(&start));
+    let block = from.take_while(|line| indented(line) || line.is_empty());
+    block.filter(indented).map(|line| &line[4..]).collect()
+}
+
+/// The indented lines that follow these words.
 fn indented_after(words: &str) -> Vec<&'static str> {
     let mut lines = README.lines().skip_while(|line| !line.contains(words));
     assert!(lines.next().is_some(), "{words}");
-    let indented = |line: &&str| line.starts_with("    ");
-    let after = lines.skip_while(|line| !indented(line));
-    let block = after.take_while(|line| indented(line) || line.is_empty());
-    let block = block.filter(|line| !line.is_empty());
-    block.map(|line| &line[4..]).collect()
+    indented_from(lines, "")
 }
 
 /// Bytes from hexadecimal digits with spaces between.
@@ -24,16 +29,20 @@ fn bytes(line: &str) -> Vec<u8> {
     places.map(byte).collect::<Result<_, _>>().expect("digits")
 }
 
+/// The lines of the crate's example that its documentation shows.
+fn documented() -> Vec<&'static str> {
+    let lines = CRATE.lines().skip_while(|line| *line != "//! ```");
+    let example = lines.skip(1).take_while(|line| *line != "//! ```");
+    let example = example.filter_map(|line| line.strip_prefix("//! "));
+    example.filter(|line| !line.starts_with("# ")).collect()
+}
+
 /// So that it is compiled and run, as the crate's own example is.
 #[test]
 fn the_example_in_rust_is_the_crate_s() {
-    let shown = indented_after("depend on the crate `rust/muntyzhap`");
-    let from = shown.iter().position(|line| line.starts_with("use "));
-    let program = &shown[from.expect("a program")..];
-    assert!(program.len() > 10, "{program:?}");
-    for line in program {
-        assert!(CRATE.contains(&format!("//! {line}\n")), "{line}");
-    }
+    let shown = indented_from(README.lines(), "use muntyzhap::");
+    assert!(shown.len() > 10, "{shown:?}");
+    assert_eq!(shown, documented());
 }
 
 #[test]

@@ -45,8 +45,9 @@ impl RuleSet {
     const CAPABILITY: u32 = 1;
     const EXPLICIT_PROVENANCE: u32 = 2;
     const FULL_PROVENANCE: u32 = 3;
-    /// "Rule 255 is to mean rule 3." (document 02, N1)
-    const HOUSE: u32 = 255;
+    /// The default rule, document 01's house rule. "Rule 255 is to mean rule 3."
+    /// (document 02, N1)
+    const DEFAULT: u32 = 255;
 
     /// 11 is "rule not 0, 1, 2, 3 or 255".
     pub fn from_number(number: u32) -> Option<RuleSet> {
@@ -54,7 +55,7 @@ impl RuleSet {
             RuleSet::ACCESS_CONTROL => Some(RuleSet::AccessControl),
             RuleSet::CAPABILITY => Some(RuleSet::Capability),
             RuleSet::EXPLICIT_PROVENANCE => Some(RuleSet::ExplicitProvenance),
-            RuleSet::FULL_PROVENANCE | RuleSet::HOUSE => Some(RuleSet::FullProvenance),
+            RuleSet::FULL_PROVENANCE | RuleSet::DEFAULT => Some(RuleSet::FullProvenance),
             _ => None,
         }
     }

@@ -1,7 +1,7 @@
 //! What slots keep, at random. Under rule 1, and under rule 2, slots that are
-//! protected from a stranger hold their opening values, on conditions of which
-//! each is needed. Under every rule, a slot that a block changes is owned at or
-//! below the block's region.
+//! protected from an adversary (document 01: a stranger) hold their opening
+//! values, on conditions of which each is needed. Under every rule, a slot that a
+//! block changes is owned at or below the block's region.
 //!
 //! The runner shows the store of a finished run only. So the first blocks of a
 //! programme are played too, none of them, one, two and so on: that shows the
@@ -82,17 +82,17 @@ impl Seen {
     }
 }
 
-/// The parts of a call, as a stranger meets them.
+/// The parts of a call, as an adversary meets them.
 struct Met<'a> {
     parts: &'a Parts,
-    stranger: u8,
+    adversary: u8,
 }
 
 impl Met<'_> {
-    /// A block of this region is outside the stranger's reach: it does not
+    /// A block of this region is outside the adversary's reach: it does not
     /// stand at or below it. A slot of this owner is protected.
     fn is_outside(&self, principal: u8) -> bool {
-        !stands_below(self.parts.masks, principal, self.stranger)
+        !stands_below(self.parts.masks, principal, self.adversary)
     }
 
     fn protected(&self) -> impl Iterator<Item = usize> + '_ {
@@ -135,7 +135,7 @@ impl Met<'_> {
     }
 }
 
-/// Whoever the stranger is: where all conditions hold, protected slots hold
+/// Whoever the adversary is: where all conditions hold, protected slots hold
 /// their opening values after each block. Where only one does not, some finished
 /// run changes a protected slot: so the condition is needed, and such a change
 /// would be seen.
@@ -145,9 +145,9 @@ fn protected_slots_are_kept<const N: usize>(rule: u32, conditions: fn(&Met) -> [
     for parts in programmes() {
         let stores = stores(&parts, rule);
         let finished = finishes(&parts, &stores);
-        for stranger in 0..parts.masks.len() as u8 {
+        for adversary in 0..parts.masks.len() as u8 {
             let parts = &parts;
-            let met = Met { parts, stranger };
+            let met = Met { parts, adversary };
             if met.protected().next().is_none() {
                 continue;
             }
@@ -229,7 +229,7 @@ fn programmes() -> impl Iterator<Item = Parts> {
 }
 
 /// Slots hold write views; blocks put them into slots and write through what a
-/// slot holds. For some stranger, each condition that is tried above is met
+/// slot holds. For some adversary, each condition that is tried above is met
 /// about half the time.
 fn views_go_round(seed: u64) -> Parts {
     let mut author = Author::stream(seed + VIEWS);
@@ -244,9 +244,9 @@ fn views_go_round(seed: u64) -> Parts {
     }
 }
 
-/// What an author spares a stranger's protected slots: write views of these, in
-/// the slots that the stranger may write, in protected ones and in blocks
-/// outside reach; and endorsed blocks outside reach.
+/// What an author spares the slots that are protected from an adversary: write
+/// views of these, in the slots that the adversary may write, in protected ones
+/// and in blocks outside reach; and endorsed blocks outside reach.
 struct Spared {
     in_own: bool,
     in_protected: bool,
@@ -257,7 +257,7 @@ struct Spared {
 struct Author {
     random: Random,
     masks: &'static [u32],
-    stranger: u8,
+    adversary: u8,
     spared: Spared,
     owners: Vec<u8>,
     /// Slots that open with a write view, or that a block puts one into.
@@ -269,7 +269,7 @@ impl Author {
         let mut random = Random::stream(number);
         // The first table has one principal, and nothing to protect.
         let masks = TABLES[1 + random.below(TABLES.len() - 1)];
-        let stranger = random.below(masks.len()) as u8;
+        let adversary = random.below(masks.len()) as u8;
         let spared = Spared {
             in_own: random.one_in(2),
             in_protected: random.one_in(2),
@@ -282,7 +282,7 @@ impl Author {
         Author {
             random,
             masks,
-            stranger,
+            adversary,
             spared,
             owners,
             holding: vec![],
@@ -290,7 +290,7 @@ impl Author {
     }
 
     fn is_outside(&self, principal: u8) -> bool {
-        !stands_below(self.masks, principal, self.stranger)
+        !stands_below(self.masks, principal, self.adversary)
     }
 
     fn slot(&mut self) -> usize {

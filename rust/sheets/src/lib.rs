@@ -1,8 +1,8 @@
-//! A small builder for sheets and code, for the second runner's tests and for
-//! the list of cases in `vectors`. It knows the bytes of documents 01 and 02
-//! itself and takes nothing from a runner or from the wrapper, so what it
-//! writes can be held against each of them. It writes what it is told to: bad
-//! sheets too.
+//! A small builder for sheets and code, for the tests of the second runner and
+//! of the wrapper and for the list of cases in `vectors`. It knows the bytes of
+//! documents 01 and 02 itself and takes nothing from a runner or from the
+//! wrapper, so what it writes can be held against each of them. It writes what
+//! it is told to: bad sheets too.
 
 #![forbid(unsafe_code)]
 

@@ -159,17 +159,18 @@ fn bad_literals() -> Vec<Case> {
 }
 
 /// A target's literal of which only so many bytes of the payload are there; all
-/// of them, they would be ill-formed.
+/// of them, they would be ill-formed but of kind 0, an integer.
 fn cut_payloads() -> Vec<Case> {
     let first = "the kind is judged before the payload's bytes are counted";
-    let cut = |kind: u8, bytes| join(&[&[0x21, 0x10, kind], &vec![0xFF; bytes]]);
-    let cases = (0..PAYLOAD).flat_map(|bytes| {
-        let unknown = format!("kind 4 and {bytes} bytes of its payload");
-        let known = format!("kind 3 and {bytes} bytes of its payload");
-        [
-            ill_formed(unknown, first, cut(4, bytes), 2),
-            ill_formed(known, EARLY, cut(3, bytes), 3 + bytes),
-        ]
-    });
-    cases.collect()
+    let cut = |kind: u8, bytes| {
+        let name = format!("kind {kind} and {bytes} bytes of its payload");
+        let code = join(&[&[0x21, 0x10, kind], &vec![0xFF; bytes]]);
+        match kind {
+            0..=3 => ill_formed(name, EARLY, code, 3 + bytes),
+            _ => ill_formed(name, first, code, 2),
+        }
+    };
+    let kinds = [0, 1, 2, 3, 4, 255];
+    let cases = kinds.map(|kind| (0..PAYLOAD).map(move |bytes| cut(kind, bytes)));
+    cases.into_iter().flatten().collect()
 }

@@ -34,7 +34,7 @@ fn passes(name: &str, code: Bytes, steps: u32) -> Case {
 }
 
 /// `depth` commands in all, each but the innermost made by `around`.
-fn nested(depth: usize, inner: Bytes, around: fn(Bytes) -> Bytes) -> Bytes {
+pub fn nested(depth: usize, inner: Bytes, around: fn(Bytes) -> Bytes) -> Bytes {
     (1..depth).fold(inner, |inner, _| around(inner))
 }
 
@@ -47,7 +47,7 @@ fn in_else(inner: Bytes) -> Bytes {
 }
 
 /// Its body does not run.
-fn in_while(inner: Bytes) -> Bytes {
+pub fn in_while(inner: Bytes) -> Bytes {
     while_do(literal(truth(false)), inner)
 }
 
@@ -181,7 +181,7 @@ fn faults_below() -> Vec<Case> {
     ]
 }
 
-/// Slot 8, at the end of eight read views, the last of which is a write view.
+/// Slot 8, at the end of seven read views and then a write view.
 fn ladder() -> Vec<(u8, Bytes)> {
     let mut slots: Vec<(u8, Bytes)> = (1..8).map(|next| (0, read_view(next))).collect();
     slots.extend([(0, write_view(8)), (0, integer(7))]);

@@ -16,7 +16,6 @@ mod branches;
 mod code;
 mod depth;
 mod descents;
-mod finds;
 mod labels;
 mod payloads;
 mod programme_sheets;
@@ -25,6 +24,7 @@ mod store_sheets;
 #[cfg(test)]
 mod tests;
 mod views;
+mod worked_examples;
 
 use std::path::PathBuf;
 

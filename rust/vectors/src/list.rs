@@ -2,13 +2,13 @@
 
 use crate::case::Case;
 use crate::{
-    arguments, branches, code, depth, descents, finds, labels, paper, payloads, programme_sheets,
-    steps, store_sheets, views,
+    arguments, branches, code, depth, descents, labels, paper, payloads, programme_sheets, steps,
+    store_sheets, views, worked_examples,
 };
 
 pub fn cases() -> Vec<Case> {
     [
-        finds::cases(),
+        worked_examples::cases(),
         arguments::cases(),
         store_sheets::cases(),
         programme_sheets::cases(),

@@ -1,8 +1,9 @@
-//! "Finds from the test trench": those that are not marked P, then P1 to P12,
-//! whose theorem is about the definitions and which are played here as well.
-//! "01's finds are worked again" (document 02, N3): values have nine bytes.
+//! Document 01's worked examples, its "finds": those that are not marked P, then
+//! P1 to P12, whose theorem is about the definitions and which are played here as
+//! well. "01's finds are worked again" (document 02, N3): values have nine bytes.
 
 use crate::case::{case, Case};
+use crate::depth::{in_while, nested};
 use sheets::*;
 
 pub fn cases() -> Vec<Case> {
@@ -15,11 +16,6 @@ pub fn cases() -> Vec<Case> {
 
 fn opening() -> [Bytes; 2] {
     [integer(5), integer(7)]
-}
-
-/// Whiles inside each other, the last body a skip: `depth` commands in all.
-fn nested_whiles(depth: usize) -> Bytes {
-    (1..depth).fold(skip(), |body, _| while_do(literal(truth(false)), body))
 }
 
 /// Slot 0 shows itself, so any number of reads through it gives its view.
@@ -36,11 +32,11 @@ fn limits() -> Vec<Case> {
             .store(store(&[1], &[(0, integer(5))]))
             .finishes(0, &[integer(5)]),
         case("depth 32", "Depth 32 and 8 reads pass")
-            .block(0, nested_whiles(32))
+            .block(0, nested(32, skip(), in_while))
             .finishes(1, &opening()),
         // 32 whiles, each a byte and a guard, stand before the 33rd command.
         case("depth 33", "33 and 9 give 10")
-            .block(0, nested_whiles(33))
+            .block(0, nested(33, skip(), in_while))
             .refused(10, 0, 32 * (1 + LITERAL), 0),
         case("reads 8", "Depth 32 and 8 reads pass")
             .store(mirror_store())
@@ -123,7 +119,7 @@ fn budgets() -> Vec<Case> {
     let none = |name: String| case(name, "k = 0, budget 0: finishes").budget(0);
     let spent = |name: String| case(name, "while true do skip, budget 3: 17, steps 3").budget(3);
     let cases = RULES.into_iter().flat_map(|rule| {
-        let name = |find: &str| format!("{find} rule {rule}");
+        let name = |example: &str| format!("{example} rule {rule}");
         [
             none(name("P10")).rule(rule).finishes(0, &opening()),
             once(name("P11 budget 1"))

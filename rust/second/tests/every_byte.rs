@@ -1,0 +1,120 @@
+//! Every byte where a command or an expression starts, and sheets cut to every
+//! length.
+
+mod play;
+
+use play::*;
+use second_runner::{check_store, check_table};
+use sheets::*;
+
+/// "Every command is known by its first byte."
+const COMMANDS: [u8; 5] = [0x20, 0x21, 0x22, 0x23, 0x24];
+/// "An expression is 10 and a value [..], or 11 (read) and an expression."
+const EXPRESSIONS: [u8; 2] = [0x10, 0x11];
+
+/// The code as the first of two blocks, and as the second; the other one is a
+/// skip.
+fn as_either_block(code: &[u8]) -> [Call; 2] {
+    let (this, other) = ((0, code.to_vec()), (0, skip()));
+    let orders = [[this.clone(), other.clone()], [other, this]];
+    orders.map(|blocks| call(&example_store(), &programme(&blocks), 3))
+}
+
+/// "An unknown byte [..] is placed at that byte", and "code that ends early" at
+/// the block's length.
+#[track_caller]
+fn ill_formed(code: &[u8], offset: usize) {
+    for (block, call) in (0..).zip(as_either_block(code)) {
+        call.refused(9, block, offset, 0);
+    }
+}
+
+/// After a known byte there is no more: only a skip is whole.
+#[test]
+fn a_command_is_known_by_its_first_byte() {
+    for byte in 0..=u8::MAX {
+        let code = [byte];
+        match COMMANDS.contains(&byte) {
+            true if code[..] == skip() => {
+                for call in as_either_block(&code) {
+                    call.finishes(0, &[integer(5), integer(7)]);
+                }
+            }
+            true => ill_formed(&code, 1),
+            false => ill_formed(&code, 0),
+        }
+    }
+}
+
+/// As a target, a value, the guard of an if and of a while, and what is read.
+#[test]
+fn an_expression_is_known_by_its_first_byte() {
+    let value = join(&[&[0x21], &literal(write_view(0))]);
+    let heads = [&[0x21], &value[..], &[0x23], &[0x24], &[0x24, 0x11]];
+    for head in heads {
+        for byte in 0..=u8::MAX {
+            let known = EXPRESSIONS.contains(&byte);
+            let offset = head.len() + usize::from(known);
+            ill_formed(&join(&[head, &[byte]]), offset);
+        }
+    }
+}
+
+/// "store sizes present (1), in limits (2), total length (1)": sizes past their
+/// limits are judged once they are there.
+#[test]
+fn a_store_sheet_cut_to_any_length_is_refused() {
+    let slots = [(0, integer(5)), (9, value(9, 9))];
+    let sheets = [
+        (example_store(), 1),
+        // Its order, its second owner and its second value are bad too.
+        (store(&[1, 2], &slots), 1),
+        (store(&[], &slots), 2),
+        (store(&[1; 33], &slots), 2),
+        (store(&[1], &vec![(0, integer(5)); 257]), 2),
+    ];
+    for (sheet, number) in sheets {
+        for length in 0..sheet.len() {
+            let cut = &sheet[..length];
+            let number = if length < 3 { 1 } else { number };
+            assert_eq!(check_store(cut), number, "{length}");
+            // The programme sheet has no sizes, which is judged later.
+            call(cut, &[], 3).refused(number, 0, 0, 0);
+        }
+    }
+}
+
+#[test]
+fn a_table_sheet_cut_to_any_length_is_refused() {
+    let sheets = [
+        (table(&PAIR, &[0, 1]), 1),
+        (table(&[1, 2], &[0, 9]), 1),
+        (table(&[1; 33], &[0]), 2),
+        (table(&[1], &[0; 257]), 2),
+    ];
+    for (sheet, number) in sheets {
+        for length in 0..sheet.len() {
+            let number = if length < 3 { 1 } else { number };
+            assert_eq!(check_table(&sheet[..length]), number, "{length}");
+        }
+    }
+}
+
+/// "programme sizes (6, 7), length (6); 8 in block order": the same of k and c.
+#[test]
+fn a_programme_sheet_cut_to_any_length_is_refused() {
+    let skips = |bytes| vec![0x20; bytes];
+    let sheets = [
+        (example_programme([0, 1]), 6),
+        // Its second region and its code are bad too.
+        (programme(&[(0, skips(2)), (9, vec![0xFF])]), 6),
+        (programme(&vec![(0, skip()); 65]), 7),
+        (programme(&[(0, skips(16_385))]), 7),
+    ];
+    for (sheet, number) in sheets {
+        for length in 0..sheet.len() {
+            let number = if length < 3 { 6 } else { number };
+            call(&example_store(), &sheet[..length], 3).refused(number, 0, 0, 0);
+        }
+    }
+}
