@@ -19,7 +19,7 @@ use Rattle.calculus.proofs.Whole.{whole-worked, whole-run-not-safe}
 use Rattle.calculus.proofs.Chosen.{chosen-worked, not-enough-under-capability}
 use Rattle.calculus.proofs.Endorsed.{endorsed-worked, endorsed-not-isolated}
 use Rattle.calculus.proofs.Unrelated.{unrelated-protected}
-use Rattle.calculus.proofs.Vectors.{vectors-hold, descents-hold, faults-hold}
+use Rattle.calculus.proofs.Vectors.{vectors-hold, descents-hold, faults-hold, misreadings-hold}
 
 pub promises : Promises
 promises =
@@ -30,6 +30,7 @@ promises =
       steps-bounded = steps-bounded;
       vectors-hold = vectors-hold;
       faults-hold = faults-hold;
+      misreadings-hold = misreadings-hold;
       isolated = isolated;
       full-rule = full-rule;
       unrelated-protected = unrelated-protected;

@@ -1,4 +1,4 @@
--- The worked examples hold of the definitions, by computation: P1 to P12, D1 to D26, and those of the order in a step. Assumes nothing.
+-- The worked examples hold of the definitions, by computation: P1 to P12, D1 to D26, those of the order in a step and of misreadings. Assumes nothing.
 use mathlib.Core.Path.{refl}
 use Rattle.lattice.specs.Tests.{_and_, _or_, _implies_, every, some, find}
 use Rattle.lattice.specs.Order.{bit, inRange, reflexive, antisymmetric, transitive, isMeet, hasMeets, isTop, hasTop, good, meet, top}
@@ -15,9 +15,10 @@ use Rattle.calculus.specs.Run.{runProgramme, runOpened, runUnder, run, a
 use Rattle.calculus.specs.Vectors.{vectors, VectorsHold}
 use Rattle.calculus.specs.Descents.{from3to2, from2to0, from1to0, larger, unordered, runsOf, DescentsHold}
 use Rattle.calculus.specs.Faults.{faults, FaultsHold}
+use Rattle.calculus.specs.Misreadings.{misreadings, MisreadingsHold}
 
-computed : VectorsHold × DescentsHold × FaultsHold
-unfolding vectors from3to2 from2to0 from1to0 larger unordered runsOf faults runProgramme runOpened runUnder run answerOf outputOf
+computed : VectorsHold × DescentsHold × FaultsHold × MisreadingsHold
+unfolding vectors from3to2 from2to0 from1to0 larger unordered runsOf faults misreadings runProgramme runOpened runUnder run answerOf outputOf
     _and_ _or_ _implies_ every some find bit inRange reflexive antisymmetric transitive isMeet hasMeets isTop hasTop good meet top
     _>>=_ require refusedAs inTurn unplaced numberAt numberBytes table filled wellFormed valueAt valueBytes opened assigned emptySlot slotBytes
     orderOf tablesOf openingOf valueWidthIn valueGood sizesAllowed slotChecked bodyChecked sheetChecked storeSheet slotsBytes
@@ -25,7 +26,7 @@ unfolding vectors from3to2 from2to0 from1to0 larger unordered runsOf faults runP
     headerOf startOf headerGood blockAt blocksFrom programmeSheet
     rulesOf judgesViews judgesRegion labelsJudged allAbove inRegion admit fetch eval judge authorised reliable permit assignment
     counted written performed step choose loop exec execBody execs haltAnswer runBlocks start
-computed = (refl, refl, refl)
+computed = (refl, refl, refl, refl)
 
 pub vectors-hold : VectorsHold
 vectors-hold = computed .0
@@ -35,3 +36,6 @@ descents-hold = computed .1
 
 pub faults-hold : FaultsHold
 faults-hold = computed .2
+
+pub misreadings-hold : MisreadingsHold
+misreadings-hold = computed .3

@@ -16,4 +16,5 @@ pub mod Whole
 pub mod Chosen
 pub mod Descents
 pub mod Faults
+pub mod Misreadings
 pub mod Promises

@@ -19,17 +19,19 @@ use Rattle.calculus.specs.Whole.{WholeRunSafety, WholeWorked}
 use Rattle.calculus.specs.Chosen.{SufficesUnderCapability, ChosenWorked}
 use Rattle.calculus.specs.Descents.{DescentsHold}
 use Rattle.calculus.specs.Faults.{FaultsHold}
+use Rattle.calculus.specs.Misreadings.{MisreadingsHold}
 
 pub record Promises : Type 0 where
   -- Demand 1, "The table is good when ..": the tests of a table say that it is a partial order with meets and a top
   pub good-tables : GoodTables
-  -- Demand 2: a run is exactly what the rule set says; a while is its own unrolling; steps grow up to the budget; P1 to P12, and the order of
-  -- refusals in a step
+  -- Demand 2: a run is exactly what the rule set says; a while is its own unrolling; steps grow up to the budget; P1 to P12, the order of
+  -- refusals in a step, and what is easily misread
   pub faithfulness : Faithfulness
   pub while-law : WhileLaw
   pub steps-bounded : StepsBounded
   pub vectors-hold : VectorsHold
   pub faults-hold : FaultsHold
+  pub misreadings-hold : MisreadingsHold
   -- Demand 3: isolation under full provenance, of all the rule numbers that mean it. An unrelated owner's slot is protected, and "no endorsed
   -- block" cannot be dropped.
   pub isolated : Isolation
