@@ -35,7 +35,7 @@ use Rattle.calculus.proofs.Taint.{Tainted, Agree, agree-refl, agree-tai
 use Rattle.calculus.proofs.Invariant.{Ends, all-ends, written-slot, assignment-gives}
 use Rattle.calculus.proofs.Authority.{reach-keeps}
 use Rattle.calculus.proofs.Kept.{Keeps, keeps-under, protected-kept}
-use Rattle.calculus.proofs.Isolation.{opens}
+use Rattle.calculus.proofs.Isolation.{same-again, opens}
 use Rattle.calculus.proofs.Capability.{Low, gives-within}
 use Rattle.calculus.proofs.Ended.{endGood, endStore, end-part, end-keeps, end-formed, end-kept}
 use Rattle.calculus.proofs.Direct.{formed-cases}
@@ -191,7 +191,7 @@ pub not-enough-under-capability : SufficesUnderCapability → ⊥
 unfolding every _and_
 not-enough-under-capability h =
     let x = chosen-worked in
-    let self : Replacement tables 0 (sent 2) (sent 2) = record { count = refl; each = λ i l. unchanged refl refl } in
+    let self = same-again tables 0 (sent 2) in
     ⊎-elim controlled not-direct
     (h 0 sheet (sent 2) tables slots (x .principal) (bytes-of sheet refl) (x .opens) (x .noninterference)
     (sent 2) _ (bytes-of (sent 2) refl) self (x .first-run) 1 (x .inside))

@@ -19,8 +19,9 @@ use Rattle.calculus.specs.Calculus.{inRegion, admit, fetch, eval, author
 use Rattle.calculus.specs.Blocks.{runBlocks, start}
 use Rattle.calculus.specs.Run.{runProgramme, runOpened, runUnder, run, answerOf, outputOf}
 use Rattle.calculus.specs.Vectors.{blank}
-use Rattle.calculus.specs.Isolation.{StoresAgree, unchanged, Replacement, byNumber}
+use Rattle.calculus.specs.Isolation.{StoresAgree, byNumber}
 use Rattle.calculus.specs.Endorsed.{EndorsedIsolation, left, right, tables, leaking, EndorsedWorked}
+use Rattle.calculus.proofs.Isolation.{same-again}
 
 -- slot 0 is the adversary's own, and there is one more
 agree : tables .slots ≡ 2 → below (tables .order) (ownerOf tables 0) 0 ≡ true
@@ -57,7 +58,7 @@ pub endorsed-not-isolated : EndorsedIsolation → ⊥
 unfolding every _and_
 endorsed-not-isolated h =
     let x = endorsed-worked in
-    let self : Replacement tables 0 leaking leaking = record { count = refl; each = λ i l. unchanged refl refl } in
+    let self = same-again tables 0 leaking in
     let b : Bytes leaking = bytes-of leaking refl in
     let e =
     h 0 left right tables _ _ (x .principal) (bytes-of left refl) (bytes-of right refl) (x .left-opens) (x .right-opens) .0 (x .agree)

@@ -170,6 +170,10 @@ module _ (store : List ℕ) (w : Tables) (s : Store) (sheet : storeSheet store �
   unfolding ending start
   none-part i h = output-part store none blank 3 0 ending blank-run i h ∙ ap slotBytes (opens store w s sheet .inside i h)
 
+-- a programme is a replacement of itself: "or the same again"
+pub same-again : (w : Tables) (a : Label) (p : List ℕ) → Replacement w a p p
+same-again w a p = record { count = refl; each = λ i l. unchanged refl refl }
+
 -- Both ways
 
 module _ (a : Label) (store store′ : List ℕ) (w : Tables) (s s′ : Store)
@@ -207,7 +211,7 @@ module _ (a : Label) (store store′ : List ℕ) (w : Tables) (s s′ : Store)
   back : Bytes store → Bytes store′ → RunsAgree w a store store′ → StoresAgree w a s s′
   unfolding numberAt every _and_
   back d d′ h i b =
-      let self : Replacement w a none none = record { count = refl; each = λ i l. unchanged refl refl } in
+      let self = same-again w a none in
       let few : Bytes none = bytes-of none refl in
       let e =
       h none few (λ i l. absurd (omega arith)) none none few few self self _ _

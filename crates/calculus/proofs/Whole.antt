@@ -30,7 +30,7 @@ use Rattle.calculus.specs.Kept.{Spares}
 use Rattle.calculus.specs.Deputy.{ProtectedSpare, BareBlocksSpare, NoControl, DirectWrite}
 use Rattle.calculus.specs.Whole.{WholeRunSafety, sheet, tables, slots, sent, left, WholeWorked}
 use Rattle.calculus.proofs.Taint.{tainted-down}
-use Rattle.calculus.proofs.Isolation.{opens}
+use Rattle.calculus.proofs.Isolation.{same-again, opens}
 use Rattle.calculus.proofs.Good.{good-run}
 use Rattle.calculus.proofs.Integrity.{write-integrity}
 
@@ -119,7 +119,7 @@ pub whole-run-not-safe : WholeRunSafety → ⊥
 unfolding every _and_
 whole-run-not-safe h =
     let x = whole-worked in
-    let self : Replacement tables 0 (sent 1) (sent 1) = record { count = refl; each = λ i l. unchanged refl refl } in
+    let self = same-again tables 0 (sent 1) in
     ⊎-elim controlled not-direct
     (h 0 sheet (sent 1) tables slots (x .principal) (bytes-of sheet refl) (x .opens) (x .slots-spare, x .blocks-spare)
     (sent 1) _ (bytes-of (sent 1) refl) self (x .left-run) 1 (x .protected .inside))

@@ -26,6 +26,11 @@ fn refused(name: &str, says: &'static str, code: Bytes, number: u32, offset: usi
         .refused(number, 0, offset, 0)
 }
 
+/// One block of region 0 that is nested too deep at this offset.
+fn past(name: &str, code: Bytes, offset: usize) -> Case {
+    refused(name, DEEP, code, 10, offset)
+}
+
 /// One block of region 0 that finishes and changes nothing.
 fn passes(name: &str, code: Bytes, steps: u32) -> Case {
     case(name, DEEP)
@@ -67,21 +72,9 @@ fn too_deep() -> Vec<Case> {
     let second = [(0, skip()), (0, nested(33, skip(), in_while))];
     vec![
         passes("depth 32 by sequences", by_sequences(32), 0),
-        refused(
-            "depth 33 by sequences",
-            DEEP,
-            by_sequences(33),
-            10,
-            31 * 3 + 2,
-        ),
+        past("depth 33 by sequences", by_sequences(33), 31 * 3 + 2),
         passes("depth 32 by else-parts", by_else_parts(32), 31),
-        refused(
-            "depth 33 by else-parts",
-            DEEP,
-            by_else_parts(33),
-            10,
-            then_part,
-        ),
+        past("depth 33 by else-parts", by_else_parts(33), then_part),
         case("depth 33 in the second block", DEEP)
             .blocks(&second)
             .refused(10, 1, innermost(33), 0),
@@ -96,29 +89,15 @@ fn innermost_commands() -> Vec<Case> {
     let at_32 = innermost(32);
     vec![
         passes("a sequence at depth 31", around(31, &pair), 1),
-        refused(
-            "a sequence at depth 32",
-            DEEP,
-            around(32, &pair),
-            10,
-            at_32 + 2,
-        ),
+        past("a sequence at depth 32", around(32, &pair), at_32 + 2),
         passes("an if at depth 31", around(31, &choice), 1),
-        refused(
+        past(
             "an if at depth 32",
-            DEEP,
             around(32, &choice),
-            10,
             at_32 + 1 + LITERAL,
         ),
         passes("an assignment at depth 32", around(32, &own), 1),
-        refused(
-            "an assignment at depth 33",
-            DEEP,
-            around(33, &own),
-            10,
-            innermost(33),
-        ),
+        past("an assignment at depth 33", around(33, &own), innermost(33)),
     ]
 }
 
@@ -135,11 +114,9 @@ fn neighbours() -> Vec<Case> {
             if_else(yes(), deep(31), deep(31)),
             2,
         ),
-        refused(
+        past(
             "an else-part of depth 33",
-            DEEP,
             if_else(yes(), skip(), deep(32)),
-            10,
             else_part + innermost(32),
         ),
     ]
@@ -153,21 +130,9 @@ fn faults_below() -> Vec<Case> {
     let left_over = join(&[&around(33, &[0x20]), &[0xFF]]);
     let early = "code that ends early (offset: the block's length)";
     vec![
-        refused(
-            "a bad count at depth 33",
-            DEEP,
-            around(33, &[0x22, 0]),
-            10,
-            at,
-        ),
-        refused(
-            "a bad guard at depth 33",
-            DEEP,
-            around(33, &[0x24, 0xFF]),
-            10,
-            at,
-        ),
-        refused("bytes after depth 33", DEEP, left_over, 10, at),
+        past("a bad count at depth 33", around(33, &[0x22, 0]), at),
+        past("a bad guard at depth 33", around(33, &[0x24, 0xFF]), at),
+        past("bytes after depth 33", left_over, at),
         refused(
             "code 25 at depth 32",
             ANY_DEPTH,
