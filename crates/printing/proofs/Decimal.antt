@@ -1,15 +1,14 @@
 -- Laws of decimal texts. Assumes nothing.
 use Prim.Native.Nat.{ℕ, zero, suc, _+_, _-_, _*_, _/_, _%_, _^_, _≤_, _<_}
-use mathlib.Core.Path.{_≡_, refl, sym, ap, _∙_}
+use mathlib.Core.Path.{_≡_, refl, _∙_}
 use mathlib.Core.Bool.{Bool, true, false}
 use mathlib.Core.List.{List, [], _∷_, _++_}
-use mathlib.Core.Logic.{⊎-elim}
 use native.Mathlib.Omega.{arith}
 use lib.ListN.{length, getD, length-append, List·getD-append}
 use lib.Seq.{getD-append-seam}
 use lib.Dec.{ltb}
 use borrow.Author.Tests.{lt-ltb, le-ltb, ltb-true, ltb-false}
-use Rattle.printing.specs.Decimal.{digit, decimalWithin, mostPlaces, decimal, readOn, DecimalText}
+use Rattle.printing.specs.Decimal.{digit, decimalWithin, mostPlaces, readOn, DecimalText}
 
 -- the last digit, after those before it
 abbrev ending : ℕ → ℕ → List ℕ
