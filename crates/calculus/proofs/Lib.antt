@@ -22,6 +22,11 @@ pub mod OwnRefusals
 pub mod Kept
 pub mod Twins
 pub mod Stepwise
+pub mod Judging
+pub mod Deterministic
+pub mod Reduces
+pub mod Exact
+pub mod ByRules
 pub mod Capability
 pub mod Integrity
 pub mod Provenance

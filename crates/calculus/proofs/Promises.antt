@@ -4,6 +4,8 @@ use Rattle.store.proofs.Signed.{signed-integers}
 use Rattle.programme.proofs.Starts.{running-starts, three-worked}
 use Rattle.calculus.specs.Promises.{Promises}
 use Rattle.calculus.proofs.While.{while-law}
+use Rattle.calculus.proofs.ByRules.{faithfulness-by-rules}
+use Rattle.calculus.proofs.Exact.{exactness}
 use Rattle.calculus.proofs.Faithful.{faithfulness}
 use Rattle.calculus.proofs.Isolation.{full-rule, isolated}
 use Rattle.calculus.proofs.RuleNumbers.{rule-numbers}
@@ -25,6 +27,8 @@ pub promises : Promises
 promises =
     record {
       good-tables = good-tables;
+      faithfulness-by-rules = faithfulness-by-rules;
+      exactness = exactness;
       faithfulness = faithfulness;
       while-law = while-law;
       steps-bounded = steps-bounded;

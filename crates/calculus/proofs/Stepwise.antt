@@ -15,7 +15,8 @@ use Rattle.calculus.specs.Rules.{RuleSet}
 use Rattle.calculus.specs.Calculus.{Setting, State, Stop, counted, performed, stopAt, exec}
 use Rattle.calculus.specs.Blocks.{Halt, haltIn, setting, runBlocks, start}
 use Rattle.calculus.specs.Faithful.{Good}
-use Rattle.calculus.specs.Kept.{reached, stateWithin, runAfter, stateAfter, Task, judging, assigning, outcome, stepAt, Comes, OutOfBudget, Next, ended, refused, taken, forbidden, StepByStep}
+use Rattle.calculus.specs.Forbidden.{Task, judging, assigning}
+use Rattle.calculus.specs.Kept.{reached, stateWithin, runAfter, stateAfter, outcome, stepAt, Comes, OutOfBudget, Next, ended, refused, taken, forbidden, StepByStep}
 use Rattle.calculus.proofs.Steps.{Counted, exec-counts}
 use Rattle.calculus.proofs.Blocks.{run-counts}
 use Rattle.calculus.proofs.Twins.{Kind, After, goes-on, forbids, Beside, agree, apart, Twin, twin-ok, twin-bind, stops, Before, exec-twin}

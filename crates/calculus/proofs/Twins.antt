@@ -12,7 +12,8 @@ use Rattle.store.specs.Result.{Result, ok, refuse, _>>=_, require, refusedAs}
 use Rattle.store.proofs.Result.{Post, Any, Refuses, post-ok, post-refuse, post-refused, post-bind}
 use Rattle.programme.specs.Syntax.{Expr, literal, read, Cmd, cmd, Body, skip, assign, seq, if, while, Cmds, nil, cons}
 use Rattle.calculus.specs.Calculus.{Setting, Store, Judged, State, Stop, inRegion, admit, fetch, eval, judge, authorised, reliable, permit, assignment, counted, performed, stopAt, step, choose, exec, execBody, execs}
-use Rattle.calculus.specs.Kept.{Task, judging, assigning, outcome, Place, stepAt, inside, Comes, at-assignment, at-if, at-while, in-first, in-rest, in-then, in-else, in-body, in-later-round}
+use Rattle.calculus.specs.Forbidden.{Task, judging, assigning}
+use Rattle.calculus.specs.Kept.{outcome, Place, stepAt, inside, Comes, at-assignment, at-if, at-while, in-first, in-rest, in-then, in-else, in-body, in-later-round}
 use Rattle.calculus.proofs.Steps.{Counted, exec-counts}
 use Rattle.calculus.proofs.Refusals.{Refusing, judges, assigns}
 use Rattle.calculus.proofs.While.{while-law}

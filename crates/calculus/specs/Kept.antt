@@ -15,6 +15,7 @@ use Rattle.programme.specs.Syntax.{Expr, Cmd, cmd, assign, seq, if, while, Cmds
 use Rattle.programme.specs.Code.{readBlock}
 use Rattle.programme.specs.Sheet.{Block, kOf, headerAt, codeOf, blockAt}
 use Rattle.calculus.specs.Calculus.{Setting, Store, Judged, State, contents, judge, assignment, counted, performed, stopAt, exec}
+use Rattle.calculus.specs.Forbidden.{Task, judging, assigning}
 use Rattle.calculus.specs.Blocks.{Halt, haltIn, setting, runBlocks, start}
 use Rattle.calculus.specs.Run.{answer, output}
 use Rattle.calculus.specs.Faithful.{Good, ownRun}
@@ -45,11 +46,6 @@ module _ {store programme : List ℕ} {rule budget room : ℕ} (g : Good store p
 
   abbrev pub storeAfter : ℕ → Store
   storeAfter k = stateAfter k .store
-
--- "A step is one guard judged or one assignment made; nothing else counts." An assignment is made under a branch label.
-pub data Task : Type 0 where
-  judging : Expr → Task
-  assigning : Label → Expr → Expr → Task
 
 -- what a step comes to in a state: the state after it, or the number that forbids it
 unfoldable pub outcome : Setting → State → Task → Result ℕ State

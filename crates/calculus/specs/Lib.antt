@@ -1,12 +1,15 @@
 pub mod Rules
 pub mod Calculus
 pub mod Blocks
+pub mod Reduction
+pub mod Forbidden
 pub mod Run
 pub mod RuleNumbers
 pub mod Faithful
 pub mod Ladder
 pub mod Isolation
 pub mod Kept
+pub mod Exact
 pub mod Steps
 pub mod Deputy
 pub mod Vectors

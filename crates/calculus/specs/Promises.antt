@@ -7,6 +7,7 @@ use Rattle.store.specs.Signed.{SignedIntegers}
 use Rattle.programme.specs.Starts.{RunningStarts, ThreeWorked}
 use Rattle.calculus.specs.RuleNumbers.{RuleNumbers}
 use Rattle.calculus.specs.Faithful.{Faithfulness}
+use Rattle.calculus.specs.Exact.{Exactness, FaithfulnessByRules}
 use Rattle.calculus.specs.Ladder.{Ladder, Descent, Further, OwnRefusals, Budgets}
 use Rattle.calculus.specs.Isolation.{FullRules, Isolation}
 use Rattle.calculus.specs.Kept.{StepByStep, CapabilitySafety, WriteIntegrity}
@@ -24,8 +25,11 @@ use Rattle.calculus.specs.Misreadings.{MisreadingsHold}
 pub record Promises : Type 0 where
   -- Demand 1, "The table is good when ..": the tests of a table say that it is a partial order with meets and a top
   pub good-tables : GoodTables
-  -- Demand 2: a run is exactly what the rule set says; a while is its own unrolling; steps grow up to the budget; P1 to P12, the order of
-  -- refusals in a step, and what is easily misread
+  -- Demand 2: a call's run is exactly what the rules of the calculus come to within its budget, as every run under a budget is; what the functions
+  -- that compute it say; a while is its own unrolling; steps grow up to the budget; P1 to P12, the order of refusals in a step, and what is
+  -- easily misread
+  pub faithfulness-by-rules : FaithfulnessByRules
+  pub exactness : Exactness
   pub faithfulness : Faithfulness
   pub while-law : WhileLaw
   pub steps-bounded : StepsBounded

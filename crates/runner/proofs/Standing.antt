@@ -12,7 +12,7 @@ use Rattle.store.specs.Result.{Result, ok, refuse}
 use Rattle.store.specs.Value.{valueWidth, wellFormed, valueAt}
 use Rattle.store.specs.Sheet.{mostSlots}
 use Rattle.store.proofs.Bytes.{formed-more}
-use Rattle.store.proofs.Result.{Post, Any, post-ok, post-refuse, post-map, post-require, post-bind}
+use Rattle.store.proofs.Result.{Post, Any, post-ok, post-refuse, post-map, post-both, post-require, post-bind}
 use Rattle.programme.specs.Syntax.{Expr, Cmd, cmd, Body, seq, Cmds, nil, cons}
 use Rattle.programme.specs.Code.{Fault, Read, readValue, ExprByte, literalByte, readByte, exprByte, exprBy, readExpr, mostReads, CmdByte, skipByte, assignByte, seqByte, ifByte, whileByte, sorted, cmdByte, readCmds, readAssign, readSeq, readIf, readWhile, bodyBy, bodyTooDeep, readBody, readCmd, mostDeep, readBlock}
 use Rattle.programme.proofs.Laid.{Laid, laid-lt, cmd-laid}
@@ -77,12 +77,6 @@ cmd-sorted s at = go (ltb at (length s))
     go : (a : Bool) → CmdSorted (getD s at 0) (elim a as (λ _. CmdByte) [ true ↦ sorted (getD s at 0) | false ↦ CmdByte.noByte ])
     go true = byte-sorted (getD s at 0)
     go false = nothing
-
--- both of what two laws say of an answer's value
-post-both : {E A : Type 0} (P P′ : A → Type 0) (Q Q′ : E → Type 0) (r : Result E A) → Post P Q r → Post P′ Q′ r → Post (λ a. P a × P′ a) Any r
-unfolding Post
-post-both P P′ Q Q′ (ok a) p q = (p, q)
-post-both P P′ Q Q′ (refuse e) p q = tt
 
 module _ (m : ℕ) (few : m ≤ mostSlots) (s : List ℕ) where
   abbrev ValueStands : ℕ → Read Value → Type 0

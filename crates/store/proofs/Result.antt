@@ -54,10 +54,39 @@ module _ {E A : Type 0} where
   unfolding Post
   post-refused P Q r x h e = rw e at h
 
+  -- two things that hold of one answer
+  pub post-both : (P P′ : A → Type 0) (Q Q′ : E → Type 0) (r : Result E A)
+      → Post P Q r → Post P′ Q′ r → Post (λ a. P a × P′ a) (λ e. Q e × Q′ e) r
+  unfolding Post
+  post-both P P′ Q Q′ (ok a) p q = (p, q)
+  post-both P P′ Q Q′ (refuse e) p q = (p, q)
+
+  -- what holds of the value under a condition
+  pub post-when : {L : Type 0} (P : A → Type 0) (r : Result E A) → (L → Post P Any r) → Post (λ a. L → P a) Any r
+  unfolding Post
+  post-when P (ok a) h = h
+  post-when P (refuse e) h = tt
+
+  -- what holds of an answer, whichever it is
+  pub post-join : (R : Result E A → Type 0) (r : Result E A) → Post (λ a. R (ok a)) (λ e. R (refuse e)) r → R r
+  unfolding Post
+  post-join R (ok a) p = p
+  post-join R (refuse e) p = p
+
   pub bind-ok : (r : Result E A) → (r >>= λ a. ok a) ≡ r
   unfolding _>>=_
   bind-ok (ok a) = refl
   bind-ok (refuse e) = refl
+
+  -- an answer is one value or one refusal, and not both
+  pub one-value : (r : Result E A) (a b : A) → r ≡ ok a → r ≡ ok b → a ≡ b
+  one-value r a b p q = post-at (λ x. a ≡ x) Any r b (rw p (post-ok _ _ _ refl)) q
+
+  pub one-refusal : (r : Result E A) (x y : E) → r ≡ refuse x → r ≡ refuse y → x ≡ y
+  one-refusal r x y p q = post-refused Any (λ e. x ≡ e) r y (rw p (post-refuse _ _ _ refl)) q
+
+  pub not-both : (r : Result E A) (a : A) (x : E) → r ≡ ok a → r ≡ refuse x → ⊥
+  not-both r a x p q = post-refused Any (λ _. ⊥) r x (rw p (post-ok _ _ _ tt)) q
 
 module _ {E F A : Type 0} where
   pub post-refused-as : (P : A → Type 0) (Q : F → Type 0) (f : E → F) (r : Result E A)

@@ -1,0 +1,197 @@
+-- The rules of expressions, guards and assignments say what the functions of Calculus.antt compute. Assumes nothing.
+use Prim.Native.Nat.{ℕ}
+use mathlib.Core.Path.{_≡_, refl, sym, ap, _∙_}
+use mathlib.Core.Logic.{_↔_}
+use mathlib.Core.Bool.{Bool, true, false, true≢false}
+use mathlib.Core.List.{List, _∷_}
+use native.Mathlib.Omega.{arith}
+use Rattle.lattice.specs.Tests.{_and_, _or_, _implies_}
+use Rattle.lattice.specs.Order.{Label}
+use Rattle.lattice.proofs.Tests.{and-l, and-r, and-of, or-r, imp-at, imp-of, is-false}
+use Rattle.store.specs.Result.{Result, ok, refuse, _>>=_, require}
+use Rattle.store.specs.declared.Value.{Value}
+use Rattle.store.specs.Value.{isWriteView, viewed}
+use Rattle.store.specs.Sheet.{ownerOf}
+use Rattle.store.proofs.Result.{Post, one-value, one-refusal, not-both, post-ok, post-map, post-bind, post-require}
+use Rattle.programme.specs.Syntax.{Expr, literal, read, cmd, assign}
+use Rattle.calculus.specs.Rules.{RuleSet, accessControl, capability, explicitProvenance, fullProvenance, judgesViews, judgesRegion, labelsJudged, allAbove}
+use Rattle.calculus.specs.Calculus.{Setting, Store, Labelled, Judged, inRegion, mayHold, admit, fetch, eval, judge, authorised, reliable, permit, assignment, written}
+use Rattle.calculus.specs.Reduction.{Region, semantics, asks, _⊢⟨_∣_⟩⇓_^_, Val, Deref, _⊢⟨_∣_⟩⇓if_^_, Guard, Code, _⨾_, ⟨_∣_∣_⟩, _⊢_⟶_, If, Else, While-1, While-2, Assign, Config}
+use Rattle.calculus.specs.Forbidden.{_⊢⟨_∣_⟩⇑_, Val-15, Deref-in, Deref-13, Deref-15, Task, judging, assigning, Tries, Tries-if, Tries-while, Tries-assign, _⊢⟨_∣_⟩✗_, Guard-in, Guard-13, Target-in, Target-13, Value-in, Assign-14, Assign-16}
+use Rattle.calculus.specs.Exact.{ByRule}
+
+-- Tests and what they say
+
+-- a test that does not pass
+fails : {P : Type 0} (b : Bool) → (b ≡ true) ↔ P → b ≡ false → P → ⊥
+fails b f e p = true≢false (sym (f .1 p) ∙ e)
+
+failed : {P : Type 0} (b : Bool) → (b ≡ true) ↔ P → (P → ⊥) → b ≡ false
+failed b f n = is-false b (λ e. n (f .0 e))
+
+or-says : {P : Type 0} (a b : Bool) → (b ≡ true) ↔ P → (a or b ≡ true) ↔ (a ≡ false → P)
+unfolding _or_
+or-says true b f = (λ _ e. absurd (true≢false e), λ _. refl)
+or-says false b f = (λ e _. f .0 e, λ g. f .1 (g refl))
+
+-- a region, whatever the budget
+abbrev pub regionOf : Setting → Region
+regionOf w = record { tables = w .tables; rules = w .rules; header = w .header }
+
+-- what a rule set asks is what its tests ask
+module _ (w : Setting) where
+  abbrev ρ : Region
+  ρ = regionOf w
+
+  admitted : (rules : RuleSet) (v : Value) → (judgesViews rules and isWriteView v implies inRegion w (viewed v) ≡ true) ↔ semantics rules ρ .value v
+  unfolding judgesViews semantics inRegion _and_ _implies_
+  admitted accessControl v = (λ _. tt, λ _. refl)
+  admitted capability v = (λ e p. imp-at _ _ e p, λ f. imp-of _ _ f)
+  admitted explicitProvenance v = (λ _. tt, λ _. refl)
+  admitted fullProvenance v = (λ _. tt, λ _. refl)
+
+  authority : (rules : RuleSet) (r : ℕ) → (judgesRegion rules implies inRegion w r ≡ true) ↔ semantics rules ρ .slot r
+  unfolding judgesRegion semantics inRegion _implies_
+  authority accessControl r = (λ e. e, λ e. e)
+  authority capability r = (λ _. tt, λ _. refl)
+  authority explicitProvenance r = (λ e. e, λ e. e)
+  authority fullProvenance r = (λ e. e, λ e. e)
+
+  trusted : (rules : RuleSet) (r : ℕ) (l l′ pc : Label)
+      → (w .header .endorsed or allAbove (w .tables .order) (ownerOf (w .tables) r) (labelsJudged rules l l′ pc) ≡ true) ↔ semantics rules ρ .labels r l l′ pc
+  unfolding labelsJudged semantics allAbove
+  trusted accessControl r l l′ pc = (λ _. tt, λ _. or-r _ _ refl)
+  trusted capability r l l′ pc = (λ _. tt, λ _. or-r _ _ refl)
+  trusted explicitProvenance r l l′ pc =
+      or-says _ _ (λ e. (and-l _ _ e, and-l _ _ (and-r _ _ e)), λ p. and-of _ _ (p .0) (and-of _ _ (p .1) refl))
+  trusted fullProvenance r l l′ pc =
+      or-says _ _ (
+        λ e. (and-l _ _ e, and-l _ _ (and-r _ _ e), and-l _ _ (and-r _ _ (and-r _ _ e))),
+        λ p. and-of _ _ (p .0) (and-of _ _ (p .1) (and-of _ _ (p .2) refl)),
+      )
+
+  may-hold : (v : Value) → (mayHold w v ≡ true) ↔ asks ρ .value v
+  may-hold v = admitted (w .rules) v
+
+  may-write : (r : ℕ) → (authorised w r ≡ true) ↔ asks ρ .slot r
+  unfolding authorised
+  may-write r = authority (w .rules) r
+
+  may-trust : (r : ℕ) (l l′ pc : Label) → (reliable w r (labelsJudged (w .rules) l l′ pc) ≡ true) ↔ asks ρ .labels r l l′ pc
+  unfolding reliable
+  may-trust r l l′ pc = trusted (w .rules) r l l′ pc
+
+-- From the rules to the functions: so the rules give one value, one number, and never both
+
+-- what a task is answered, less its value
+abbrev asked : Setting → Store → Task → Result ℕ (Unit {0})
+asked w H (judging g) = judge w H g >>= λ _. ok tt
+asked w H (assigning pc x y) = assignment w pc H x y >>= λ _. ok tt
+
+module _ (w : Setting) {H : Store} where
+  eval-ok : {e : Expr} {v : Value} {l : Label} → regionOf w ⊢⟨ H ∣ e ⟩⇓ v ^ l → eval w H e ≡ ok (record { value = v; label = l })
+  unfolding eval fetch admit require _>>=_
+  eval-ok (Val p) = rw (may-hold w _ .1 p)
+  eval-ok (Deref x p q) = rw (eval-ok x, p, may-hold w _ .1 q)
+
+  eval-no : {e : Expr} {n : ℕ} → regionOf w ⊢⟨ H ∣ e ⟩⇑ n → eval w H e ≡ refuse n
+  unfolding eval fetch admit require _>>=_
+  eval-no (Val-15 p) = rw (failed _ (may-hold w _) p)
+  eval-no (Deref-in x) = rw (eval-no x)
+  eval-no (Deref-13 x p) = rw (eval-ok x, p)
+  eval-no (Deref-15 x p q) = rw (eval-ok x, p, failed _ (may-hold w _) q)
+
+  judge-ok : {g : Expr} {b : Bool} {l : Label} → regionOf w ⊢⟨ H ∣ g ⟩⇓if b ^ l → judge w H g ≡ ok (record { passes = b; label = l })
+  unfolding judge require _>>=_
+  judge-ok (Guard x p q) = rw (eval-ok x, p, q)
+
+  asked-no : {t : Task} {n : ℕ} → regionOf w ⊢⟨ H ∣ t ⟩✗ n → asked w H t ≡ refuse n
+  unfolding judge assignment permit require _>>=_
+  asked-no (Guard-in x) = rw (eval-no x)
+  asked-no (Guard-13 x p) = rw (eval-ok x, p)
+  asked-no (Target-in x) = rw (eval-no x)
+  asked-no (Target-13 x p) = rw (eval-ok x, p)
+  asked-no (Value-in x p y) = rw (eval-ok x, p, eval-no y)
+  asked-no (Assign-14 x p y a) = rw (eval-ok x, p, eval-ok y, failed _ (may-write w _) a)
+  asked-no (Assign-16 x p y a b) = rw (eval-ok x, p, eval-ok y, may-write w _ .1 a, failed _ (may-trust w _ _ _ _) b)
+
+-- the functions under some budget, which the rules don't know
+abbrev settingOf : Region → Setting
+settingOf ρ = record { tables = ρ .tables; rules = ρ .rules; header = ρ .header; budget = 0 }
+
+module _ {ρ : Region} {H : Store} where
+  pub one-eval : {e : Expr} {v v′ : Value} {l l′ : Label} → ρ ⊢⟨ H ∣ e ⟩⇓ v ^ l → ρ ⊢⟨ H ∣ e ⟩⇓ v′ ^ l′ → v ≡ v′
+  one-eval x y = ap (λ (z : Labelled). z .value) (one-value _ _ _ (eval-ok (settingOf ρ) x) (eval-ok (settingOf ρ) y))
+
+  pub one-verdict : {g : Expr} {b b′ : Bool} {l l′ : Label} → ρ ⊢⟨ H ∣ g ⟩⇓if b ^ l → ρ ⊢⟨ H ∣ g ⟩⇓if b′ ^ l′ → (b ≡ b′) × (l ≡ l′)
+  one-verdict x y =
+      let e = one-value _ _ _ (judge-ok (settingOf ρ) x) (judge-ok (settingOf ρ) y) in (ap (λ (j : Judged). j .passes) e, ap (λ (j : Judged). j .label) e)
+
+  pub one-number : {t : Task} {n n′ : ℕ} → ρ ⊢⟨ H ∣ t ⟩✗ n → ρ ⊢⟨ H ∣ t ⟩✗ n′ → n ≡ n′
+  one-number x y = one-refusal _ _ _ (asked-no (settingOf ρ) x) (asked-no (settingOf ρ) y)
+
+  asked-ok : {PC : List Label} {k : Code} {D : Config} {at : ℕ} {t : Task} → ρ ⊢ ⟨ H ∣ PC ∣ k ⟩ ⟶ D → Tries PC k at t → asked (settingOf ρ) H t ≡ ok tt
+  unfolding assignment permit require _>>=_
+  asked-ok (If x) Tries-if = rw (judge-ok (settingOf ρ) x)
+  asked-ok (Else x) Tries-if = rw (judge-ok (settingOf ρ) x)
+  asked-ok (While-1 x) Tries-while = rw (judge-ok (settingOf ρ) x)
+  asked-ok (While-2 x) Tries-while = rw (judge-ok (settingOf ρ) x)
+  asked-ok (Assign x p y a b) Tries-assign =
+      let w = settingOf ρ in rw (eval-ok w x, p, eval-ok w y, may-write w _ .1 a, may-trust w _ _ _ _ .1 b)
+
+  -- a step that is made is not forbidden
+  pub not-forbidden : {PC : List Label} {k : Code} {D : Config} {at n : ℕ} {t : Task}
+      → ρ ⊢ ⟨ H ∣ PC ∣ k ⟩ ⟶ D → Tries PC k at t → ρ ⊢⟨ H ∣ t ⟩✗ n → ⊥
+  not-forbidden g x y = not-both _ _ _ (asked-ok g x) (asked-no (settingOf ρ) y)
+
+  -- the numbers that the rules forbid by
+  eval-numbers : {e : Expr} {n : ℕ} → ρ ⊢⟨ H ∣ e ⟩⇑ n → ByRule n
+  eval-numbers (Val-15 p) = (omega arith, omega arith)
+  eval-numbers (Deref-in x) = eval-numbers x
+  eval-numbers (Deref-13 x p) = (omega arith, omega arith)
+  eval-numbers (Deref-15 x p q) = (omega arith, omega arith)
+
+  pub by-rule : {t : Task} {n : ℕ} → ρ ⊢⟨ H ∣ t ⟩✗ n → ByRule n
+  by-rule (Guard-in x) = eval-numbers x
+  by-rule (Guard-13 x p) = (omega arith, omega arith)
+  by-rule (Target-in x) = eval-numbers x
+  by-rule (Target-13 x p) = (omega arith, omega arith)
+  by-rule (Value-in x p y) = eval-numbers y
+  by-rule (Assign-14 x p y a) = (omega arith, omega arith)
+  by-rule (Assign-16 x p y a b) = (omega arith, omega arith)
+
+-- From the functions to the rules, whatever the budget
+
+pub verdict : {ρ : Region} {H : Store} {g : Expr} {b b′ : Bool} {l : Label} → ρ ⊢⟨ H ∣ g ⟩⇓if b ^ l → b ≡ b′ → ρ ⊢⟨ H ∣ g ⟩⇓if b′ ^ l
+verdict (Guard x p q) e = Guard x p (q ∙ e)
+
+module _ (w : Setting) where
+  pub evaluates : (H : Store) (e : Expr) → Post (λ x. regionOf w ⊢⟨ H ∣ e ⟩⇓ x .value ^ x .label) (λ n. regionOf w ⊢⟨ H ∣ e ⟩⇑ n) (eval w H e)
+  unfolding eval fetch admit
+  evaluates H (literal v) = post-require _ _ _ _ _ (λ p. post-ok _ _ _ (Val (may-hold w _ .0 p))) (λ p. Val-15 (fails _ (may-hold w _) p))
+  evaluates H (read e) =
+      post-bind _ _ _ _ _ (post-map _ _ _ _ _ (evaluates H e) (λ x p. p) (λ n p. Deref-in p)) λ x p.
+      post-require _ _ _ _ _
+      (λ q. post-require _ _ _ _ _ (λ m. post-ok _ _ _ (Deref p q (may-hold w _ .0 m))) (λ m. Deref-15 p q (fails _ (may-hold w _) m))) (λ q. Deref-13 p q)
+
+  pub judges : (H : Store) (g : Expr)
+      → Post (λ j. regionOf w ⊢⟨ H ∣ g ⟩⇓if j .passes ^ j .label) (λ n. regionOf w ⊢⟨ H ∣ judging g ⟩✗ n) (judge w H g)
+  unfolding judge
+  judges H g =
+      post-bind _ _ _ _ _ (post-map _ _ _ _ _ (evaluates H g) (λ x p. p) (λ n p. Guard-in p)) λ x p.
+      post-require _ _ _ _ _ (λ q. post-ok _ _ _ (Guard p q refl)) (λ q. Guard-13 p q)
+
+  pub assigns : (H : Store) (pc : Label) (PC : List Label) (at end : ℕ) (x y : Expr) (k : Code)
+      → Post (λ z. regionOf w ⊢ ⟨ H ∣ pc ∷ PC ∣ cmd at end (assign x y) ⨾ k ⟩ ⟶ ⟨ written z H ∣ pc ∷ PC ∣ k ⟩)
+      (λ n. regionOf w ⊢⟨ H ∣ assigning pc x y ⟩✗ n) (assignment w pc H x y)
+  unfolding assignment permit
+  assigns H pc PC at end x y k =
+      post-bind _ _ _ _ _ (post-map _ _ _ _ _ (evaluates H x) (λ r p. p) (λ n p. Target-in p)) λ r p.
+      post-require _ _ _ _ _
+      (λ t. post-bind _ _ _ _ _ (post-map _ _ _ _ _ (evaluates H y) (λ v q. q) (λ n q. Value-in p t q)) λ v q.
+      post-require _ _ _ _ _
+      (λ a. post-require _ _ _ _ _
+      (λ b. post-ok _ _ _ (Assign p t q (may-write w _ .0 a) (may-trust w _ _ _ _ .0 b)))
+      (λ b. Assign-16 p t q (may-write w _ .0 a) (fails _ (may-trust w _ _ _ _) b)))
+      (λ a. Assign-14 p t q (fails _ (may-write w _) a)))
+      (λ t. Target-13 p t)

@@ -1,0 +1,153 @@
+-- A run under a budget goes by the rules, step by step, to where it ends or is stopped. Assumes nothing.
+use Prim.Native.Nat.{ℕ, zero, suc, _+_, _-_, _≤_, _<_}
+use mathlib.Core.Path.{_≡_, refl}
+use mathlib.Core.List.{List, [], _∷_}
+use native.Mathlib.Omega.{arith}
+use borrow.Author.Tests.{eqb-true, eqb-false, not-true, not-false}
+use Rattle.lattice.specs.Order.{Label, meet, top}
+use Rattle.store.specs.Result.{Result, ok, refuse}
+use Rattle.store.specs.Sheet.{Tables}
+use Rattle.store.proofs.Result.{Post, Any, post-ok, post-refuse, post-when, post-map, post-both, post-join, post-require, post-bind, post-refused-as}
+use Rattle.programme.specs.declared.Header.{Header}
+use Rattle.programme.specs.Syntax.{Expr, Cmd, cmd, Body, skip, assign, seq, if, while, Cmds, nil, cons}
+use Rattle.programme.specs.Sheet.{Block}
+use Rattle.calculus.specs.Rules.{RuleSet}
+use Rattle.calculus.specs.Calculus.{Setting, State, Stop, judge, counted, performed, step, loop, exec, execBody, execs}
+use Rattle.calculus.specs.Blocks.{Halt, haltIn, setting, runBlocks}
+use Rattle.calculus.specs.Reduction.{Region, Code, done, _⨾_, end⨾_, _⨾⨾_, ⟨_∣_∣_⟩, Seq, Seq-2, End, If, Else, While-1, While-2, Stage, before, during, Start, Prg-1, Prg-1-silent, Comp-2, _⊩_⟹*_, here, after}
+use Rattle.calculus.specs.Forbidden.{Task, Tries, Tries-if, Tries-while, Tries-assign, _⊢⟨_∣_⟩✗_, Forbid, Spend}
+use Rattle.calculus.specs.Exact.{regions}
+use Rattle.calculus.proofs.Steps.{exec-counts, post-choose}
+use Rattle.calculus.proofs.Judging.{verdict, judges, assigns}
+use Rattle.calculus.proofs.Deterministic.{finished, forbidden, spent, Ends, all-add}
+
+module _ {ρ : Header → Region} where
+  pub then-all : {P Q R : Stage} → ρ ⊩ P ⟹* Q → ρ ⊩ Q ⟹* R → ρ ⊩ P ⟹* R
+  then-all here qs = qs
+  then-all (after p ps) qs = after p (then-all ps qs)
+
+  go-on : {budget : ℕ} {P Q : Stage} {r : Result Halt State} → ρ ⊩ P ⟹* Q → Ends ρ budget Q r → Ends ρ budget P r
+  go-on g x = (x .0, then-all g (x .1), x .2)
+
+-- a block's run
+module _ (w : Tables) (rules : RuleSet) (budget i : ℕ) (h : Header) (bs : List Block) where
+  abbrev W : Setting
+  W = record { tables = w; rules = rules; header = h; budget = budget }
+
+  -- during the block, in state s, with this code left under these branch labels
+  abbrev left : State → List Label → Code → Stage
+  left s PC k = during i (s .steps) h ⟨ s .store ∣ PC ∣ k ⟩ bs
+
+  abbrev Goes : Stage → Stage → Type 0
+  Goes P Q = regions w rules ⊩ P ⟹* Q
+
+  -- from P the run is stopped at e
+  abbrev Stops : Stage → Stop → Type 0
+  Stops P e = Ends (regions w rules) budget P (refuse (haltIn i e))
+
+  -- from code to code, under the same branch labels; or it is stopped, the budget not having been passed before
+  abbrev Does : List Label → Code → Code → State → Result Stop State → Type 0
+  Does PC k k′ s r = Post (λ t. Goes (left s PC k) (left t PC k′)) (λ e. s .steps ≤ budget → Stops (left s PC k) e) r
+
+  -- a step: by the rules, with budget left, or forbidden
+  tried : {A : Type 0} (P : A → Type 0) (at : ℕ) (s : State) (t : Task) (PC : List Label) (k : Code) (r : Result ℕ A) → Tries PC k at t
+      → Post P (λ n. regions w rules h ⊢⟨ s .store ∣ t ⟩✗ n) r
+      → Post (λ a. P a × (s .steps ≡ budget → ⊥)) (λ e. s .steps ≤ budget → Stops (left s PC k) e) (step W at s r)
+  unfolding step
+  tried P at s t PC k r x p =
+      post-refused-as _ _ _ _
+      (post-require _ _ _ _ _
+      (λ e. let d : s .steps ≡ budget → ⊥ = eqb-false (s .steps) budget (not-true _ e) in
+      post-map _ _ _ _ _ p (λ a q. (q, d)) (λ n q l. (_, here, forbidden (Forbid x q) (omega (arith, d)))))
+      (λ e l. (_, here, spent (Spend x) (eqb-true (s .steps) budget (not-false _ e)))))
+
+  -- a part that is entered from s, where budget was left, by one step
+  part : (pc : Label) (PC : List Label) (k k′ : Code) (P : Stage) (s : State) (r : Result Stop State) → (s .steps ≡ budget → ⊥)
+      → Goes P (left (counted s) (pc ∷ PC) k) → Does (pc ∷ PC) k (end⨾ k′) (counted s) r
+      → Post (λ t. Goes P (left t PC k′) × (s .steps < t .steps)) (λ e. s .steps ≤ budget → Stops P e) r
+  unfolding counted
+  part pc PC k k′ P s r d g p =
+      post-map _ _ _ _ r p (λ t q. (then-all g (then-all q (after (Prg-1-silent End) here)), omega (arith, all-add q)))
+      (λ e q l. go-on g (q (omega (arith, d))))
+
+  branch : (pc : Label) (PC : List Label) (k k′ : Code) (P : Stage) (s : State) (r : Result Stop State) → (s .steps ≡ budget → ⊥)
+      → Goes P (left (counted s) (pc ∷ PC) k) → Does (pc ∷ PC) k (end⨾ k′) (counted s) r
+      → Post (λ t. Goes P (left t PC k′)) (λ e. s .steps ≤ budget → Stops P e) r
+  branch pc PC k k′ P s r d g p = post-map _ _ _ _ r (part pc PC k k′ P s r d g p) (λ t q. q .0) (λ e q. q)
+
+  -- no command passes the budget
+  within : (c : Cmd) (pc : Label) (s : State) → Post (λ t. s .steps ≤ budget → t .steps ≤ budget) Any (exec W c pc s)
+  within c pc s = post-when _ _ λ l. post-map _ _ _ _ _ (exec-counts W 0 c pc s (record { grown = omega arith; kept = l })) (λ t x. x .kept) (λ _ _. tt)
+
+  module _ (g : Expr) (c : Cmd) (at end : ℕ) (pc : Label) (PC : List Label) (k : Code) where
+    abbrev again : Code
+    again = cmd at end (while g c) ⨾ k
+
+    module _ (body : (l : Label) (s : State) → Does (l ∷ pc ∷ PC) (c ⨾ end⨾ again) (end⨾ again) s (exec W c l s)) where
+      rounds-go : (n : ℕ) (s : State) → budget ≤ n + s .steps
+          → Does (pc ∷ PC) again k s (loop (λ t. step W at t (judge W (t .store) g)) (λ l t. exec W c (meet (w .order) pc l) t) at n s)
+      unfolding loop counted
+      rounds-go zero s m = post-refuse _ _ _ (λ l. (_, here, spent (Spend Tries-while) (omega arith)))
+      rounds-go (suc n) s m =
+          post-bind _ _ _ _ _ (tried _ at s _ _ _ _ Tries-while (judges W (s .store) g)) λ j q.
+          post-choose _ _ _ _ _ _
+          (λ e. let l = meet (w .order) pc (j .label) in
+          post-bind (λ u. Goes (left s (pc ∷ PC) again) (left u (pc ∷ PC) again) × (s .steps < u .steps) × (s .steps ≤ budget → u .steps ≤ budget)) _ _ _ _
+          (post-map _ _ _ _ _
+          (post-both _ _ _ _ _
+          (part l (pc ∷ PC) _ _ _ s _ (q .1) (after (Prg-1 (While-1 (verdict (q .0) e))) here) (body l (counted s)))
+          (within c l (counted s)))
+          (λ u x. (x .0 .0, x .0 .1, λ m. x .1 (omega (arith, q .1)))) (λ x y. y .0))
+          (λ u x. post-map _ _ _ _ _ (rounds-go n u (omega (arith, x .1))) (λ t y. then-all (x .0) y) (λ x′ y l. go-on (x .0) (y (x .2 l)))))
+          (λ e. post-ok _ _ _ (after (Prg-1 (While-2 (verdict (q .0) e))) here))
+
+  mutual
+    unfolding exec execBody execs counted performed _⨾⨾_
+
+    pub exec-goes : (c : Cmd) (pc : Label) (s : State) (PC : List Label) (k : Code) → Does (pc ∷ PC) (c ⨾ k) k s (exec W c pc s)
+    exec-goes (cmd at end b) pc s PC k = body-goes b at end pc s PC k
+
+    body-goes : (b : Body) (at end : ℕ) (pc : Label) (s : State) (PC : List Label) (k : Code)
+        → Does (pc ∷ PC) (cmd at end b ⨾ k) k s (execBody W b at pc s)
+    body-goes skip at end pc s PC k = post-ok _ _ _ (after (Prg-1-silent Seq-2) here)
+    body-goes (assign x v) at end pc s PC k =
+        post-bind _ _ _ _ _
+        (tried _ at s _ _ _ _ Tries-assign (assigns W (s .store) pc PC at end x v k))
+        (λ y q. post-ok _ _ _ (after (Prg-1 (q .0)) here))
+    body-goes (seq cs) at end pc s PC k =
+        post-map _ _ _ _ _ (execs-goes cs pc s PC k) (λ t q. after (Prg-1-silent Seq) q) (λ e q l. go-on (after (Prg-1-silent Seq) here) (q l))
+    body-goes (if g c d) at end pc s PC k =
+        post-bind _ _ _ _ _ (tried _ at s _ _ _ _ Tries-if (judges W (s .store) g)) λ j q.
+        let l = meet (w .order) pc (j .label) in
+        post-choose _ _ _ _ _ _
+        (λ e. branch l (pc ∷ PC) _ k _ s _ (q .1) (after (Prg-1 (If (verdict (q .0) e))) here) (exec-goes c l (counted s) (pc ∷ PC) (end⨾ k)))
+        (λ e. branch l (pc ∷ PC) _ k _ s _ (q .1) (after (Prg-1 (Else (verdict (q .0) e))) here) (exec-goes d l (counted s) (pc ∷ PC) (end⨾ k)))
+    body-goes (while g c) at end pc s PC k =
+        rounds-go g c at end pc PC k (λ l t. exec-goes c l t (pc ∷ PC) (end⨾ cmd at end (while g c) ⨾ k)) (budget - s .steps) s (omega arith)
+
+    execs-goes : (cs : Cmds) (pc : Label) (s : State) (PC : List Label) (k : Code) → Does (pc ∷ PC) (cs ⨾⨾ k) k s (execs W cs pc s)
+    execs-goes nil pc s PC k = post-ok _ _ _ here
+    execs-goes (cons c cs) pc s PC k =
+        post-bind (λ u. Goes (left s (pc ∷ PC) (c ⨾ cs ⨾⨾ k)) (left u (pc ∷ PC) (cs ⨾⨾ k)) × (s .steps ≤ budget → u .steps ≤ budget)) _ _ _ _
+        (post-map _ _ _ _ _ (post-both _ _ _ _ _ (exec-goes c pc s PC (cs ⨾⨾ k)) (within c pc s)) (λ u x. x) (λ x y. y .0))
+        (λ u x. post-map _ _ _ _ _ (execs-goes cs pc u PC k) (λ t y. then-all (x .0) y) (λ x′ y l. go-on (x .0) (y (x .1 l))))
+
+-- a programme's run
+blocks-go : (w : Tables) (rules : RuleSet) (budget i : ℕ) (bs : List Block) (s : State) → s .steps ≤ budget
+    → Post (λ t. Ends (regions w rules) budget (before i (s .steps) (s .store) bs) (ok t))
+    (λ e. Ends (regions w rules) budget (before i (s .steps) (s .store) bs) (refuse e)) (runBlocks w rules budget i bs s)
+unfolding runBlocks
+blocks-go w rules budget i [] s l = post-ok _ _ _ (_, here, finished l)
+blocks-go w rules budget i (b ∷ bs) s l =
+    post-bind (λ u. (regions w rules ⊩ before i (s .steps) (s .store) (b ∷ bs) ⟹* before (i + 1) (u .steps) (u .store) bs) × (u .steps ≤ budget)) _ _ _ _
+    (post-refused-as _ _ _ _
+    (post-map _ _ _ _ _
+    (post-both _ _ _ _ _
+    (exec-goes w rules budget i (b .header) bs (b .command) (top (w .order)) s [] done)
+    (within w rules budget i (b .header) bs (b .command) (top (w .order)) s))
+    (λ u x. (after Start (then-all (x .0) (after (Comp-2 refl) here)), x .1 l)) (λ e y. go-on (after Start here) (y .0 l))))
+    (λ u x. post-map _ _ _ _ _ (blocks-go w rules budget (i + 1) bs u (x .1)) (λ t y. go-on (x .0) y) (λ e y. go-on (x .0) y))
+
+pub run-ends : (w : Tables) (rules : RuleSet) (budget i : ℕ) (bs : List Block) (s : State) → s .steps ≤ budget
+    → Ends (regions w rules) budget (before i (s .steps) (s .store) bs) (runBlocks w rules budget i bs s)
+run-ends w rules budget i bs s l = post-join (Ends (regions w rules) budget (before i (s .steps) (s .store) bs)) _ (blocks-go w rules budget i bs s l)

@@ -1,0 +1,128 @@
+-- The calculus as rules, with neither budget nor fuel: source 003, figures 2 to 4, with document 01's changes. A rule has its name there, less the
+-- prefix of a semantics (A, C, EP, FP, or X for any). Where our copy is damaged document 01 decides: in figure 2 the rules of expressions, the
+-- premises of A-Assign and C-Assign, and X-while 2; in figure 3 EP-Deref; in figure 4 FP-while, FP-endif, FP-endwhile and FP-Assign. H(r) is
+-- `contents`, H[r ↦ v] is `written`. Assumes nothing.
+use Prim.Native.Nat.{ℕ, _+_}
+use mathlib.Core.Path.{_≡_}
+use mathlib.Core.Bool.{Bool, true, false}
+use mathlib.Core.List.{List, [], _∷_}
+use Rattle.lattice.specs.Order.{Label, below, meet, top}
+use Rattle.store.specs.declared.Value.{Value}
+use Rattle.store.specs.Value.{truth, readView, is, isWriteView, viewed, holds}
+use Rattle.store.specs.Sheet.{Tables, ownerOf}
+use Rattle.programme.specs.declared.Header.{Header}
+use Rattle.programme.specs.Syntax.{Expr, literal, read, Cmd, cmd, skip, assign, seq, if, while, Cmds, nil, cons}
+use Rattle.programme.specs.Sheet.{Block}
+use Rattle.calculus.specs.Rules.{RuleSet, accessControl, capability, explicitProvenance, fullProvenance}
+use Rattle.calculus.specs.Calculus.{Store, contents, written}
+
+infix 10 _⊢⟨_∣_⟩⇓_^_ _⊢⟨_∣_⟩⇓if_^_ _⊢_⇝_ _⊢_⟶_ _⊩_⟹_ _⊩_⟹*_
+infixr 30 _⨾_ end⨾_ _⨾⨾_
+-- A region ρ, which a block's header gives, and what its rules look up: the lattice, the owners O(r), the rule set
+pub record Region : Type 0 where
+  pub tables : Tables
+  pub rules : RuleSet
+  pub header : Header
+
+-- ℓ ≥ O(r), "at or above the owner"; and ρ ≥ O(r), "the region must be at or above the slot's owner"
+abbrev pub Above : Region → Label → ℕ → Type 0
+Above ρ l r = below (ρ .tables .order) (ownerOf (ρ .tables) r) l ≡ true
+
+abbrev pub Covers : Region → ℕ → Type 0
+Covers ρ r = Above ρ (ρ .header .region) r
+
+-- What a semantics asks of a value that an expression gives (C-Val, C-Deref), of the slot that is assigned (A-Assign), and of the labels of
+-- target, value and branch (EP-Assign, FP-Assign)
+pub record Semantics : Type 1 where
+  pub value : Value → Type 0
+  pub slot : ℕ → Type 0
+  pub labels : ℕ → Label → Label → Label → Type 0
+
+abbrev asking : (Value → Type 0) → (ℕ → Type 0) → (ℕ → Label → Label → Label → Type 0) → Semantics
+asking v r l = record { value = v; slot = r; labels = l }
+
+-- "Rule 0, access control: the region must be at or above the slot's owner."
+-- "Rule 1, capability: each literal and each read result .. that is a write view must have an owner at or below the region."
+-- "Rule 2, explicit provenance: rule 0, and unless the block is endorsed the labels of target and value both stand at or above the owner."
+-- "Rule 3, full provenance: rule 2 with one more label, that of the branch." Source 003 asks of the labels' meet what is asked here of each.
+unfoldable pub semantics : RuleSet → Region → Semantics
+semantics accessControl ρ = asking (λ v. Unit) (Covers ρ) (λ r l l′ pc. Unit)
+semantics capability ρ = asking (λ v. isWriteView v ≡ true → Covers ρ (viewed v)) (λ r. Unit) (λ r l l′ pc. Unit)
+semantics explicitProvenance ρ = asking (λ v. Unit) (Covers ρ) (λ r l l′ pc. ρ .header .endorsed ≡ false → Above ρ l r × Above ρ l′ r)
+semantics fullProvenance ρ =
+    asking (λ v. Unit) (Covers ρ) (λ r l l′ pc. ρ .header .endorsed ≡ false → Above ρ l r × Above ρ l′ r × Above ρ pc r)
+
+abbrev pub asks : Region → Semantics
+asks ρ = semantics (ρ .rules) ρ
+
+-- Expressions, ⟨H, e⟩ ⇓ v^ℓ
+pub data _⊢⟨_∣_⟩⇓_^_ (ρ : Region) (H : Store) : Expr → Value → Label → Type 0 where
+  -- "a literal gives its value .. Its label: top for a literal"
+  Val : {v : Value} → asks ρ .value v → ρ ⊢⟨ H ∣ literal v ⟩⇓ v ^ top (ρ .tables .order)
+  -- "a read needs a read view and gives that slot's present value. Its label: .. the meet of the view's label and the slot's owner."
+  Deref : {e : Expr} {r : Value} {l : Label} → ρ ⊢⟨ H ∣ e ⟩⇓ r ^ l → is readView r ≡ true → asks ρ .value (contents H (viewed r))
+      → ρ ⊢⟨ H ∣ read e ⟩⇓ contents H (viewed r) ^ meet (ρ .tables .order) l (ownerOf (ρ .tables) (viewed r))
+
+-- "Guard: must be a truth value.": v = tt, or v = ff
+pub data _⊢⟨_∣_⟩⇓if_^_ (ρ : Region) (H : Store) : Expr → Bool → Label → Type 0 where
+  Guard : {g : Expr} {v : Value} {b : Bool} {l : Label} → ρ ⊢⟨ H ∣ g ⟩⇓ v ^ l → is truth v ≡ true → holds v ≡ b → ρ ⊢⟨ H ∣ g ⟩⇓if b ^ l
+
+-- What is left of a block: commands, and the markers `endif` and `endwhile`. X-Seq 1 is its form: the first command goes on, the rest waits.
+pub data Code : Type 0 where
+  done : Code
+  _⨾_ : Cmd → Code → Code
+  end⨾_ : Code → Code
+
+unfoldable pub _⨾⨾_ : Cmds → Code → Code
+nil ⨾⨾ k = k
+cons c cs ⨾⨾ k = c ⨾ cs ⨾⨾ k
+
+-- Commands, ⟨H, PC, c⟩ ⟶ ⟨H′, PC′, c′⟩: the store, the stack of branch labels, the present one first, and the code
+pub data Config : Type 0 where
+  ⟨_∣_∣_⟩ : Store → List Label → Code → Config
+
+-- Silent: "A step is one guard judged or one assignment made; nothing else counts."
+pub data _⊢_⇝_ (ρ : Region) : Config → Config → Type 0 where
+  -- a sequence is document 01's, of 2 to 255 commands; the source's has two
+  Seq : {H : Store} {PC : List Label} {at end : ℕ} {cs : Cmds} {k : Code} → ρ ⊢ ⟨ H ∣ PC ∣ cmd at end (seq cs) ⨾ k ⟩ ⇝ ⟨ H ∣ PC ∣ cs ⨾⨾ k ⟩
+  Seq-2 : {H : Store} {PC : List Label} {at end : ℕ} {k : Code} → ρ ⊢ ⟨ H ∣ PC ∣ cmd at end skip ⨾ k ⟩ ⇝ ⟨ H ∣ PC ∣ k ⟩
+  -- FP-endif and FP-endwhile: "after the part, or after each round before judging again, the outer one is back"
+  End : {H : Store} {pc : Label} {PC : List Label} {k : Code} → ρ ⊢ ⟨ H ∣ pc ∷ PC ∣ end⨾ k ⟩ ⇝ ⟨ H ∣ PC ∣ k ⟩
+
+-- Counted. "Inside an if-part or a while body it is the meet of the outer one and the guard's label": pc ⊓ ℓ is pushed
+pub data _⊢_⟶_ (ρ : Region) : Config → Config → Type 0 where
+  If : {H : Store} {pc l : Label} {PC : List Label} {at end : ℕ} {g : Expr} {c d : Cmd} {k : Code} → ρ ⊢⟨ H ∣ g ⟩⇓if true ^ l
+      → ρ ⊢ ⟨ H ∣ pc ∷ PC ∣ cmd at end (if g c d) ⨾ k ⟩ ⟶ ⟨ H ∣ meet (ρ .tables .order) pc l ∷ pc ∷ PC ∣ c ⨾ end⨾ k ⟩
+  Else : {H : Store} {pc l : Label} {PC : List Label} {at end : ℕ} {g : Expr} {c d : Cmd} {k : Code} → ρ ⊢⟨ H ∣ g ⟩⇓if false ^ l
+      → ρ ⊢ ⟨ H ∣ pc ∷ PC ∣ cmd at end (if g c d) ⨾ k ⟩ ⟶ ⟨ H ∣ meet (ρ .tables .order) pc l ∷ pc ∷ PC ∣ d ⨾ end⨾ k ⟩
+  -- "A while whose guard is true runs its body and judges again."; one whose guard is false is over, under the labels that it had
+  While-1 : {H : Store} {pc l : Label} {PC : List Label} {at end : ℕ} {g : Expr} {c : Cmd} {k : Code} → ρ ⊢⟨ H ∣ g ⟩⇓if true ^ l
+      → ρ ⊢ ⟨ H ∣ pc ∷ PC ∣ cmd at end (while g c) ⨾ k ⟩ ⟶ ⟨ H ∣ meet (ρ .tables .order) pc l ∷ pc ∷ PC ∣ c ⨾ end⨾ cmd at end (while g c) ⨾ k ⟩
+  While-2 : {H : Store} {pc l : Label} {PC : List Label} {at end : ℕ} {g : Expr} {c : Cmd} {k : Code} → ρ ⊢⟨ H ∣ g ⟩⇓if false ^ l
+      → ρ ⊢ ⟨ H ∣ pc ∷ PC ∣ cmd at end (while g c) ⨾ k ⟩ ⟶ ⟨ H ∣ pc ∷ PC ∣ k ⟩
+  -- "target evaluated first, must be a write view, then the value"; H[r ↦ v]
+  Assign : {H : Store} {pc l l′ : Label} {PC : List Label} {at end : ℕ} {x y : Expr} {k : Code} {r v : Value}
+      → ρ ⊢⟨ H ∣ x ⟩⇓ r ^ l → isWriteView r ≡ true → ρ ⊢⟨ H ∣ y ⟩⇓ v ^ l′
+      → asks ρ .slot (viewed r) → asks ρ .labels (viewed r) l l′ pc
+      → ρ ⊢ ⟨ H ∣ pc ∷ PC ∣ cmd at end (assign x y) ⨾ k ⟩ ⟶ ⟨ written (record { slot = viewed r; value = v }) H ∣ pc ∷ PC ∣ k ⟩
+
+-- Programmes, ρ{c} ∘ P: "Blocks run in order." With the number of a block and of the steps done: before that block, the store and the
+-- blocks from it on; or during it, its header, where it stands, and the blocks after it
+pub data Stage : Type 0 where
+  before : ℕ → ℕ → Store → List Block → Stage
+  during : ℕ → ℕ → Header → Config → List Block → Stage
+
+pub data _⊩_⟹_ (ρ : Header → Region) : Stage → Stage → Type 0 where
+  -- the branch label "is top at a block's start": PC = [⊤]
+  Start : {i n : ℕ} {H : Store} {b : Block} {bs : List Block}
+      → ρ ⊩ before i n H (b ∷ bs) ⟹ during i n (b .header) ⟨ H ∣ top (ρ (b .header) .tables .order) ∷ [] ∣ b .command ⨾ done ⟩ bs
+  -- X-Prg 1 and X-Comp 1, silent and counted
+  Prg-1-silent : {i n : ℕ} {h : Header} {C D : Config} {bs : List Block} → ρ h ⊢ C ⇝ D → ρ ⊩ during i n h C bs ⟹ during i n h D bs
+  Prg-1 : {i n : ℕ} {h : Header} {C D : Config} {bs : List Block} → ρ h ⊢ C ⟶ D → ρ ⊩ during i n h C bs ⟹ during i (n + 1) h D bs
+  -- FP-Comp 2; here the last block too is left, and a run is finished before a block that is not there
+  Comp-2 : {i n : ℕ} {h : Header} {H : Store} {PC : List Label} {bs : List Block} → PC ≡ top (ρ h .tables .order) ∷ []
+      → ρ ⊩ during i n h ⟨ H ∣ PC ∣ done ⟩ bs ⟹ before (i + 1) n H bs
+
+pub data _⊩_⟹*_ (ρ : Header → Region) : Stage → Stage → Type 0 where
+  here : {P : Stage} → ρ ⊩ P ⟹* P
+  after : {P Q R : Stage} → ρ ⊩ P ⟹ Q → ρ ⊩ Q ⟹* R → ρ ⊩ P ⟹* R
