@@ -1,7 +1,7 @@
 -- Demand 2 over the rules, from demand 2 over `runBlocks`. Assumes nothing.
 use Prim.Native.Nat.{ℕ}
 use mathlib.Core.Path.{_≡_, refl, sym, ap, _∙_}
-use mathlib.Core.Logic.{_↔_, _⊎_, inl, inr, ⊎-elim}
+use mathlib.Core.Logic.{_⊎_, inl, inr, ⊎-elim}
 use mathlib.Core.List.{List}
 use native.Mathlib.Omega.{arith}
 use lib.ListN.{length}
@@ -14,8 +14,7 @@ use Rattle.calculus.specs.Blocks.{Halt, haltAnswer}
 use Rattle.calculus.specs.Run.{answer, output}
 use Rattle.calculus.specs.Faithful.{Good, ownRun, Faithful}
 use Rattle.calculus.specs.Kept.{stateWithin}
-use Rattle.calculus.specs.Reduction.{Stage}
-use Rattle.calculus.specs.Exact.{held, ByRule, Reaches, FinishesWithin, ForbidsWithin, PausesAtBudget, Exact, ByRules, FaithfulnessByRules}
+use Rattle.calculus.specs.Exact.{From13To16, FinishesWithin, ForbidsWithin, DueAtBudget, Exact, ByRules, FaithfulnessByRules}
 use Rattle.calculus.proofs.Faithful.{faithfulness}
 use Rattle.calculus.proofs.Exact.{exactness}
 
@@ -29,14 +28,14 @@ module _ (store programme : List ℕ) (rule budget : ℕ) (old : List ℕ) (g : 
   f : Faithful store programme rule budget old g
   f = faithfulness store programme rule budget old g
 
-  one-of-three : ((s : State) × FinishesWithin g s) ⊎ ((h : Halt) × ForbidsWithin g h) ⊎ ((h : Halt) × PausesAtBudget g h)
+  one-of-three : ((s : State) × FinishesWithin g s) ⊎ ((h : Halt) × ForbidsWithin g h) ⊎ ((h : Halt) × DueAtBudget g h)
   one-of-three = go (ownRun g) refl
     where
       go : (r : Result Halt State) → ownRun g ≡ r
-          → ((s : State) × FinishesWithin g s) ⊎ ((h : Halt) × ForbidsWithin g h) ⊎ ((h : Halt) × PausesAtBudget g h)
+          → ((s : State) × FinishesWithin g s) ⊎ ((h : Halt) × ForbidsWithin g h) ⊎ ((h : Halt) × DueAtBudget g h)
       go (ok s) e = inl (s, x .finishes budget s .1 e)
       go (refuse h) e =
-          inr (⊎-elim (λ n. inl (h, x .forbids budget h .1 (e, n))) (λ n. inr (h, x .spends budget h .1 (e, n))) (x .numbers budget h e))
+          inr (⊎-elim (λ n. inl (h, x .forbids budget h .1 (e, n))) (λ n. inr (h, x .runs-out budget h .1 (e, n))) (x .numbers budget h e))
 
   finished : (s : State) → FinishesWithin g s
       → (answer store programme rule budget (length old) ≡ record { number = 0; block = length (g .blocks); offset = 0; steps = s .steps })
@@ -52,20 +51,20 @@ module _ (store programme : List ℕ) (rule budget : ℕ) (old : List ℕ) (g : 
   forbidden : (h : Halt) → ForbidsWithin g h → Refused h
   forbidden h y = refused h (x .forbids budget h .0 y .0)
 
-  spent : (h : Halt) → PausesAtBudget g h → Refused h
-  spent h y = refused h (x .spends budget h .0 y .0)
+  out-of-budget : (h : Halt) → DueAtBudget g h → Refused h
+  out-of-budget h y = refused h (x .runs-out budget h .0 y .0)
 
   numbered : (h : Halt) → Refused h → number ≡ h .stop .number
   unfolding haltAnswer
   numbered h r = ap (λ (a : Answer). a .number) (r .0)
 
-  by-rules : (h : Halt) → ForbidsWithin g h → ByRule number
+  by-rules : (h : Halt) → ForbidsWithin g h → From13To16 number
   by-rules h y =
       let e = numbered h (forbidden h y) in
       let r = x .forbids budget h .0 y .1 in (omega (arith, e, r .0), omega (arith, e, r .1))
 
-  by-17 : (h : Halt) → PausesAtBudget g h → number ≡ 17
-  by-17 h y = numbered h (spent h y) ∙ x .spends budget h .0 y .1
+  by-17 : (h : Halt) → DueAtBudget g h → number ≡ 17
+  by-17 h y = numbered h (out-of-budget h y) ∙ x .runs-out budget h .0 y .1
 
   by-0 : (s : State) → FinishesWithin g s → number ≡ 0
   by-0 s y = ap (λ (a : Answer). a .number) (finished s y .0)
@@ -84,11 +83,11 @@ module _ (store programme : List ℕ) (rule budget : ℕ) (old : List ℕ) (g : 
           λ y. by-rules (y .0) (y .1),
         );
         forbidden = forbidden;
-        spends = (
+        runs-out = (
           λ e. ⊎-elim (λ y. absurd (omega (arith, by-0 (y .0) (y .1)))) (⊎-elim (λ y. absurd (omega (arith, by-rules (y .0) (y .1) .1))) (λ y. y)) one-of-three,
           λ y. by-17 (y .0) (y .1),
         );
-        spent = spent;
+        out-of-budget = out-of-budget;
         one-of-three = one-of-three;
         endless = λ n m. ⊎-elim (λ y. absurd (n (y .0) (y .1 .0))) (⊎-elim (λ y. absurd (m (y .0) (y .1 .0))) (λ y. by-17 (y .0) (y .1))) one-of-three;
         everywhere = λ P r. rw (take-length (g .blocks)) (sym (x .everywhere P r));

@@ -1,6 +1,6 @@
 -- The rules leave no choice, with and without a budget. Assumes nothing.
 use Prim.Native.Nat.{ℕ, _+_, _≤_, _<_}
-use mathlib.Core.Path.{_≡_, refl, sym, ap, _∙_}
+use mathlib.Core.Path.{_≡_, refl, ap, _∙_}
 use mathlib.Core.Logic.{_⊎_, inl, inr, ⊎-elim}
 use mathlib.Core.Bool.{true≢false}
 use mathlib.Core.List.{List, []}
@@ -9,19 +9,18 @@ use lib.ListN.{length}
 use Rattle.lattice.specs.Order.{Label}
 use Rattle.store.specs.Result.{Result, ok, refuse}
 use Rattle.programme.specs.declared.Header.{Header}
-use Rattle.programme.specs.Sheet.{Block}
-use Rattle.calculus.specs.Calculus.{Store, State, stopAt}
-use Rattle.calculus.specs.Blocks.{Halt, haltIn}
-use Rattle.calculus.specs.Reduction.{Region, Code, done, Config, ⟨_∣_∣_⟩, _⊢_⇝_, Seq, Seq-2, End, _⊢_⟶_, If, Else, While-1, While-2, Assign, Stage, before, during, _⊩_⟹_, Start, Prg-1, Prg-1-silent, Comp-2, _⊩_⟹*_, here, after}
-use Rattle.calculus.specs.Forbidden.{Task, Tries, Tries-if, Tries-while, Tries-assign, _⊢⟨_∣_⟩✗_, Forbidden, Forbid, Due, Spend}
-use Rattle.calculus.specs.Exact.{held}
+use Rattle.calculus.specs.Calculus.{Store, State}
+use Rattle.calculus.specs.Blocks.{Halt}
+use Rattle.calculus.specs.Reduction.{Region, Code, done, Config, ⟨_∣_∣_⟩, _⊢_⇝_, Seq, Seq-2, End, _⊢_⟶_, If, Else, While-1, While-2, Assign, Stage, before, during, _⊩_⟹_, Start, Prg-1, Prg-1-silent, Comp-2}
+use Rattle.calculus.specs.Forbidden.{Task, Tries, Tries-if, Tries-while, Tries-assign, Forbidden, Forbid, Due, Due-17}
+use Rattle.calculus.specs.Exact.{_⊩_⟹*_, here, after, held}
 use Rattle.calculus.proofs.Judging.{one-eval, one-verdict, one-number, not-forbidden}
 
 -- where a run within a budget stands still, and what it comes to
 pub data Rests (ρ : Header → Region) (budget : ℕ) : Stage → Result Halt State → Type 0 where
   finished : {i n : ℕ} {H : Store} → n ≤ budget → Rests ρ budget (before i n H []) (ok (record { store = H; steps = n }))
   forbidden : {P : Stage} {h : Halt} → Forbidden ρ P h → h .stop .state .steps < budget → Rests ρ budget P (refuse h)
-  spent : {P : Stage} {h : Halt} → Due P h → h .stop .state .steps ≡ budget → Rests ρ budget P (refuse h)
+  out-of-budget : {P : Stage} {h : Halt} → Due P h → h .stop .state .steps ≡ budget → Rests ρ budget P (refuse h)
 
 -- what a run from P comes to within a budget
 abbrev pub Ends : (Header → Region) → ℕ → Stage → Result Halt State → Type 0
@@ -76,7 +75,7 @@ done-rests = elim [ ]
 pub not-done : {PC : List Label} {at : ℕ} {t : Task} → Tries PC done at t → ⊥
 not-done = elim [ ]
 
-one-try : {PC : List Label} {k : Code} {at at′ : ℕ} {t t′ : Task} → Tries PC k at t → Tries PC k at′ t′ → (at ≡ at′) × (t ≡ t′)
+pub one-try : {PC : List Label} {k : Code} {at at′ : ℕ} {t t′ : Task} → Tries PC k at t → Tries PC k at′ t′ → (at ≡ at′) × (t ≡ t′)
 one-try Tries-if Tries-if = (refl, refl)
 one-try Tries-while Tries-while = (refl, refl)
 one-try Tries-assign Tries-assign = (refl, refl)
@@ -147,9 +146,12 @@ module _ {ρ : Header → Region} where
   forbidden-rests (Forbid x n) (Comp-2 e) = not-done x
 
   pub due-adds : {P Q : Stage} {h : Halt} → Due P h → ρ ⊩ P ⟹ Q → steps-at Q ≡ steps-at P + 1
-  due-adds (Spend x) (Prg-1-silent q) = absurd (not-silent x q)
-  due-adds (Spend x) (Prg-1 {D = ⟨ H ∣ PC ∣ k ⟩} q) = refl
-  due-adds (Spend x) (Comp-2 e) = absurd (not-done x)
+  due-adds (Due-17 x) (Prg-1-silent q) = absurd (not-silent x q)
+  due-adds (Due-17 x) (Prg-1 {D = ⟨ H ∣ PC ∣ k ⟩} q) = refl
+  due-adds (Due-17 x) (Comp-2 e) = absurd (not-done x)
+
+  pub one-forbidden : {P : Stage} {h h′ : Halt} → Forbidden ρ P h → Forbidden ρ P h′ → h ≡ h′
+  one-forbidden (Forbid x n) (Forbid x′ n′) = let e = one-try x x′ in rw (e .0, one-number (rw (e .1) at n) n′)
 
 -- Where a run stops is the state that it has
 
@@ -157,7 +159,7 @@ pub forbidden-at : {ρ : Header → Region} {P : Stage} {h : Halt} → Forbidden
 forbidden-at (Forbid x n) = refl
 
 pub due-at : {P : Stage} {h : Halt} → Due P h → h .stop .state ≡ held P
-due-at (Spend x) = refl
+due-at (Due-17 x) = refl
 
 -- Within a budget
 
@@ -165,28 +167,27 @@ module _ {ρ : Header → Region} (budget : ℕ) where
   pub rest-within : {P : Stage} {r : Result Halt State} → Rests ρ budget P r → steps-at P ≤ budget
   rest-within (finished l) = l
   rest-within (forbidden x l) = omega (arith, ap (λ (s : State). s .steps) (forbidden-at x))
-  rest-within (spent x e) = omega (arith, ap (λ (s : State). s .steps) (due-at x))
+  rest-within (out-of-budget x e) = omega (arith, ap (λ (s : State). s .steps) (due-at x))
 
   -- a step from there would pass the budget
   pub rest-stays : {P Q : Stage} {r : Result Halt State} → Rests ρ budget P r → ρ ⊩ P ⟹ Q → budget < steps-at Q
   rest-stays (forbidden x l) q = absurd (forbidden-rests x q)
-  rest-stays (spent x e) q = omega (arith, ap (λ (s : State). s .steps) (due-at x), due-adds x q)
+  rest-stays (out-of-budget x e) q = omega (arith, ap (λ (s : State). s .steps) (due-at x), due-adds x q)
 
   rest-once : {P : Stage} {r r′ : Result Halt State} → Rests ρ budget P r → Rests ρ budget P r′ → r ≡ r′
   rest-once (finished l) (finished l′) = refl
-  rest-once (forbidden (Forbid x n) l) (forbidden (Forbid x′ n′) l′) =
-      let e = one-try x x′ in rw (e .0, one-number (rw (e .1) at n) n′)
-  rest-once (forbidden (Forbid x n) l) (spent (Spend x′) e) = absurd (omega (arith, l, e))
-  rest-once (spent (Spend x) e) (forbidden (Forbid x′ n) l) = absurd (omega (arith, l, e))
-  rest-once (spent (Spend x) e) (spent (Spend x′) e′) = rw (one-try x x′ .0)
+  rest-once (forbidden x l) (forbidden x′ l′) = ap refuse (one-forbidden x x′)
+  rest-once (forbidden (Forbid x n) l) (out-of-budget (Due-17 x′) e) = absurd (omega (arith, l, e))
+  rest-once (out-of-budget (Due-17 x) e) (forbidden (Forbid x′ n) l) = absurd (omega (arith, l, e))
+  rest-once (out-of-budget (Due-17 x) e) (out-of-budget (Due-17 x′) e′) = rw (one-try x x′ .0)
 
-  -- a run comes to one end
-  meets : {P Q Q′ : Stage} {r r′ : Result Halt State} → ρ ⊩ P ⟹* Q → ρ ⊩ P ⟹* Q′
-      → Rests ρ budget Q r → Rests ρ budget Q′ r′ → r ≡ r′
-  meets here here x y = rest-once x y
+  -- a run comes to one stage where it stands still, and to one end
+  pub meets : {P Q Q′ : Stage} {r r′ : Result Halt State} → ρ ⊩ P ⟹* Q → ρ ⊩ P ⟹* Q′
+      → Rests ρ budget Q r → Rests ρ budget Q′ r′ → Q ≡ Q′
+  meets here here x y = refl
   meets here (after p ps) x y = absurd (omega (arith, rest-stays x p, all-add ps, rest-within y))
   meets (after p ps) here x y = absurd (omega (arith, rest-stays y p, all-add ps, rest-within x))
   meets (after p ps) (after q qs) x y = meets ps (rw (deterministic q p) at qs) x y
 
   pub one-end : {P : Stage} {r r′ : Result Halt State} → Ends ρ budget P r → Ends ρ budget P r′ → r ≡ r′
-  one-end x y = meets (x .1) (y .1) (x .2) (y .2)
+  one-end x y = rest-once (x .2) (rw (meets (y .1) (x .1) (y .2) (x .2)) at (y .2))

@@ -15,11 +15,11 @@ use Rattle.calculus.specs.Rules.{RuleSet}
 use Rattle.calculus.specs.Calculus.{Store, State}
 use Rattle.calculus.specs.Blocks.{Halt, start}
 use Rattle.calculus.specs.Kept.{reached}
-use Rattle.calculus.specs.Reduction.{Region, done, ⟨_∣_∣_⟩, Stage, before, during, _⊩_⟹_, Comp-2, Prg-1, Prg-1-silent, _⊩_⟹*_, here, after}
-use Rattle.calculus.specs.Forbidden.{Forbidden, Forbid, Due, Spend}
-use Rattle.calculus.specs.Exact.{regions, held, ByRule, Leads, Reaches, finish, Finishes, Forbids, Pauses, under, Spent, Exact, Exactness}
+use Rattle.calculus.specs.Reduction.{Region, done, ⟨_∣_∣_⟩, regions, Stage, before, during, _⊩_⟹_, Comp-2, Prg-1, Prg-1-silent}
+use Rattle.calculus.specs.Forbidden.{Forbidden, Forbid, Due, Due-17}
+use Rattle.calculus.specs.Exact.{_⊩_⟹*_, here, after, held, From13To16, Reaches, finish, Finishes, Forbids, ComesDue, under, RunsOut, Exact, Exactness}
 use Rattle.calculus.proofs.Judging.{by-rule}
-use Rattle.calculus.proofs.Deterministic.{Rests, finished, forbidden, spent, Ends, deterministic, steps-at, all-keep, all-add, fork, all-numbered, forbidden-rests, forbidden-at, due-at, rest-within, rest-stays, one-end, done-silent, done-rests, not-done}
+use Rattle.calculus.proofs.Deterministic.{Rests, finished, forbidden, out-of-budget, Ends, deterministic, steps-at, all-keep, all-add, fork, all-numbered, forbidden-rests, one-forbidden, forbidden-at, due-at, rest-within, rest-stays, one-end, done-silent, done-rests, not-done}
 use Rattle.calculus.proofs.Reduces.{run-ends}
 
 -- where a run that finishes stands, and one that is stopped
@@ -30,14 +30,14 @@ at-finish (finished {i = i} l) = (i, refl, l)
 at-stop : {ρ : Header → Region} {budget : ℕ} {P : Stage} {h : Halt} → Rests ρ budget P (refuse h)
     → (Forbidden ρ P h × (h .stop .state .steps < budget)) ⊎ (Due P h × (h .stop .state .steps ≡ budget))
 at-stop (forbidden x l) = inl (x, l)
-at-stop (spent d e) = inr (d, e)
+at-stop (out-of-budget d e) = inr (d, e)
 
 -- what they are stopped by
-forbidden-number : {ρ : Header → Region} {P : Stage} {h : Halt} → Forbidden ρ P h → ByRule (h .stop .number)
+forbidden-number : {ρ : Header → Region} {P : Stage} {h : Halt} → Forbidden ρ P h → From13To16 (h .stop .number)
 forbidden-number (Forbid x n) = by-rule n
 
 due-number : {P : Stage} {h : Halt} → Due P h → h .stop .number ≡ 17
-due-number (Spend x) = refl
+due-number (Due-17 x) = refl
 
 abbrev Underway : Stage → Type 0
 Underway (before i n H bs) = ⊥
@@ -82,30 +82,30 @@ module _ (o : Opening) (rules : RuleSet) (blocks : List Block) where
   stopped-by-rules : (budget : ℕ) (h : Halt) → Forbids o rules blocks h → h .stop .state .steps < budget → run budget ≡ refuse h
   stopped-by-rules budget h x l = to budget (refuse h) (x .0, x .1, forbidden (x .2) l)
 
-  stopped-by-budget : (budget : ℕ) (h : Halt) → Pauses o rules blocks h → h .stop .state .steps ≡ budget → run budget ≡ refuse h
-  stopped-by-budget budget h x e = to budget (refuse h) (x .0, x .1, spent (x .2) e)
+  stopped-by-budget : (budget : ℕ) (h : Halt) → ComesDue o rules blocks h → h .stop .state .steps ≡ budget → run budget ≡ refuse h
+  stopped-by-budget budget h x e = to budget (refuse h) (x .0, x .1, out-of-budget (x .2) e)
 
   stops : (budget : ℕ) (h : Halt) → run budget ≡ refuse h
-      → (Forbids o rules blocks h × (h .stop .state .steps < budget)) ⊎ (Pauses o rules blocks h × (h .stop .state .steps ≡ budget))
+      → (Forbids o rules blocks h × (h .stop .state .steps < budget)) ⊎ (ComesDue o rules blocks h × (h .stop .state .steps ≡ budget))
   stops budget h e =
       let x = from budget (refuse h) e in
       ⊎-elim (λ y. inl ((x .0, x .1, y .0), y .1)) (λ y. inr ((x .0, x .1, y .0), y .1)) (at-stop (x .2))
 
   forbids : (budget : ℕ) (h : Halt)
-      → (Forbids o rules blocks h × (h .stop .state .steps < budget)) ↔ ((run budget ≡ refuse h) × ByRule (h .stop .number))
+      → (Forbids o rules blocks h × (h .stop .state .steps < budget)) ↔ ((run budget ≡ refuse h) × From13To16 (h .stop .number))
   forbids budget h = (
     λ x. (stopped-by-rules budget h (x .0) (x .1), forbidden-number (x .0 .2)),
     λ y. ⊎-elim (λ x. x) (λ x. absurd (omega (arith, due-number (x .0 .2), y .1 .1))) (stops budget h (y .0)),
   )
 
-  spends : (budget : ℕ) (h : Halt)
-      → (Pauses o rules blocks h × (h .stop .state .steps ≡ budget)) ↔ ((run budget ≡ refuse h) × (h .stop .number ≡ 17))
-  spends budget h = (
+  runs-out : (budget : ℕ) (h : Halt)
+      → (ComesDue o rules blocks h × (h .stop .state .steps ≡ budget)) ↔ ((run budget ≡ refuse h) × (h .stop .number ≡ 17))
+  runs-out budget h = (
     λ x. (stopped-by-budget budget h (x .0) (x .1), due-number (x .0 .2)),
     λ y. ⊎-elim (λ x. absurd (omega (arith, forbidden-number (x .0 .2) .1, y .1))) (λ x. x) (stops budget h (y .0)),
   )
 
-  numbers : (budget : ℕ) (h : Halt) → run budget ≡ refuse h → ByRule (h .stop .number) ⊎ (h .stop .number ≡ 17)
+  numbers : (budget : ℕ) (h : Halt) → run budget ≡ refuse h → From13To16 (h .stop .number) ⊎ (h .stop .number ≡ 17)
   numbers budget h e = ⊎-elim (λ x. inl (forbidden-number (x .0 .2))) (λ x. inr (due-number (x .0 .2))) (stops budget h e)
 
   -- it has finished, or its next step is forbidden
@@ -117,7 +117,7 @@ module _ (o : Opening) (rules : RuleSet) (blocks : List Block) where
   at-end budget m x (finished {i = k} {n = n} {H = H} l) =
       let s : State = record { store = H; steps = n } in inl (s, ap (λ (k : ℕ). before k n H []) (played k s x))
   at-end budget m x (forbidden {h = h} y l) = inr (h, y)
-  at-end budget m x (spent d e) = absurd (omega (arith, ap (λ (s : State). s .steps) (due-at d)))
+  at-end budget m x (out-of-budget d e) = absurd (omega (arith, ap (λ (s : State). s .steps) (due-at d)))
 
   one-way : {P Q : Stage} {r : Result Halt State} (budget : ℕ) → steps-at P < budget → At P → Rests ρ budget Q r
       → (ρ ⊩ P ⟹* Q) ⊎ (ρ ⊩ Q ⟹* P) → ((R : Stage) × (ρ ⊩ P ⟹ R)) ⊎ AtEnd P
@@ -131,6 +131,9 @@ module _ (o : Opening) (rules : RuleSet) (blocks : List Block) where
 
   finish-stays : (s : State) (Q : Stage) → ρ ⊩ finish o rules blocks s ⟹ Q → ⊥
   finish-stays s Q = elim [ ]
+
+  finish-allowed : (s : State) (h : Halt) → Forbidden ρ (finish o rules blocks s) h → ⊥
+  finish-allowed s h = elim [ ]
 
   -- a block is left under the stack that it was begun with
   leaves : {i n : ℕ} {h : Header} {H : Store} {PC : List Label} {bs : List Block} {Q : Stage} → ρ ⊩ during i n h ⟨ H ∣ PC ∣ done ⟩ bs ⟹ Q
@@ -156,7 +159,7 @@ module _ (o : Opening) (rules : RuleSet) (blocks : List Block) where
   unfolding reached
   rests-at (finished l) = refl
   rests-at (forbidden x l) = sym (forbidden-at x)
-  rests-at (spent x e) = sym (due-at x)
+  rests-at (out-of-budget x e) = sym (due-at x)
 
   same-state : {P Q : Stage} {r : Result Halt State} → Rests ρ (steps-at P) Q r → (ρ ⊩ P ⟹* Q) ⊎ (ρ ⊩ Q ⟹* P) → held P ≡ reached r
   same-state {P} y (inl ps) = ⊎-elim (λ e. e ∙ rests-at y) (λ l. absurd (omega (arith, rest-within (steps-at P) y))) (all-keep ps)
@@ -166,12 +169,12 @@ module _ (o : Opening) (rules : RuleSet) (blocks : List Block) where
   everywhere : (P : Stage) → At P → held P ≡ reached (run (steps-at P))
   everywhere P x = let y = comes (steps-at P) in same-state (y .2) (fork x (y .1))
 
-  -- a budget is spent that neither the end nor a forbidden step comes within
-  runs-out : (budget : ℕ) → ((s : State) → Finishes o rules blocks s → budget < s .steps)
-      → ((h : Halt) → Forbids o rules blocks h → budget ≤ h .stop .state .steps) → Spent o rules blocks budget
-  runs-out budget f g = go (run budget) refl
+  -- a budget runs out that neither the end nor a forbidden step comes within
+  none-within : (budget : ℕ) → ((s : State) → Finishes o rules blocks s → budget < s .steps)
+      → ((h : Halt) → Forbids o rules blocks h → budget ≤ h .stop .state .steps) → RunsOut o rules blocks budget
+  none-within budget f g = go (run budget) refl
     where
-      go : (r : Result Halt State) → run budget ≡ r → Spent o rules blocks budget
+      go : (r : Result Halt State) → run budget ≡ r → RunsOut o rules blocks budget
       go (ok s) e = let x = finishes budget s .1 e in absurd (omega (arith, f s (x .0), x .1))
       go (refuse h) e =
           ⊎-elim (λ x. absurd (omega (arith, g h (x .0), x .1))) (λ x. (h, x .0, x .1, e)) (stops budget h e)
@@ -181,8 +184,8 @@ module _ (o : Opening) (rules : RuleSet) (blocks : List Block) where
       let m = s .steps + s′ .steps in
       one-value (run m) s s′ (finishes m s .0 (x, omega arith)) (finishes m s′ .0 (y, omega arith))
 
-  one-forbidden : (h h′ : Halt) → Forbids o rules blocks h → Forbids o rules blocks h′ → h ≡ h′
-  one-forbidden h h′ x y =
+  forbidden-once : (h h′ : Halt) → Forbids o rules blocks h → Forbids o rules blocks h′ → h ≡ h′
+  forbidden-once h h′ x y =
       let m = h .stop .state .steps + h′ .stop .state .steps + 1 in
       one-refusal (run m) h h′ (stopped-by-rules m h x (omega arith)) (stopped-by-rules m h′ y (omega arith))
 
@@ -191,11 +194,11 @@ module _ (o : Opening) (rules : RuleSet) (blocks : List Block) where
       let m = s .steps + h .stop .state .steps + 1 in
       not-both (run m) s h (finishes m s .0 (x, omega arith)) (stopped-by-rules m h y (omega arith))
 
-  -- a run that spends every budget never ends
-  never-finishes : ((budget : ℕ) → Spent o rules blocks budget) → (s : State) → Finishes o rules blocks s → ⊥
+  -- a run that every budget runs out in never ends
+  never-finishes : ((budget : ℕ) → RunsOut o rules blocks budget) → (s : State) → Finishes o rules blocks s → ⊥
   never-finishes f s x = let y = f (s .steps) in not-both (run (s .steps)) s (y .0) (finishes (s .steps) s .0 (x, omega arith)) (y .3)
 
-  never-forbidden : ((budget : ℕ) → Spent o rules blocks budget) → (h : Halt) → Forbids o rules blocks h → ⊥
+  never-forbidden : ((budget : ℕ) → RunsOut o rules blocks budget) → (h : Halt) → Forbids o rules blocks h → ⊥
   never-forbidden f h x =
       let m = h .stop .state .steps + 1 in
       let y = f m in
@@ -209,15 +212,17 @@ module _ (o : Opening) (rules : RuleSet) (blocks : List Block) where
         goes-on = goes-on;
         finish-stays = finish-stays;
         forbidden-stays = λ P Q h. forbidden-rests;
+        finish-allowed = finish-allowed;
+        one-forbidden = λ P h h′. one-forbidden;
         block-ends = block-ends;
         finishes = finishes;
         forbids = forbids;
-        spends = spends;
+        runs-out = runs-out;
         numbers = numbers;
         everywhere = everywhere;
-        cut-short = λ s x budget l. runs-out budget (λ s′ y. omega (arith, ap (λ (t : State). t .steps) (one-finish s s′ x y))) (λ h y. absurd (either s h x y));
-        cut-before = λ h x budget l. runs-out budget (λ s y. absurd (either s h y x)) (λ h′ y. omega (arith, ap (λ (t : Halt). t .stop .state .steps) (one-forbidden h h′ x y)));
-        endless = (λ f budget. runs-out budget (λ s y. absurd (f .0 s y)) (λ h y. absurd (f .1 h y)), λ f. (never-finishes f, never-forbidden f));
+        cut-short = λ s x budget l. none-within budget (λ s′ y. omega (arith, ap (λ (t : State). t .steps) (one-finish s s′ x y))) (λ h y. absurd (either s h x y));
+        cut-before = λ h x budget l. none-within budget (λ s y. absurd (either s h y x)) (λ h′ y. omega (arith, ap (λ (t : Halt). t .stop .state .steps) (forbidden-once h h′ x y)));
+        endless = (λ f budget. none-within budget (λ s y. absurd (f .0 s y)) (λ h y. absurd (f .1 h y)), λ f. (never-finishes f, never-forbidden f));
       }
 
 pub exactness : Exactness

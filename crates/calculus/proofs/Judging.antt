@@ -18,7 +18,7 @@ use Rattle.calculus.specs.Rules.{RuleSet, accessControl, capability, exp
 use Rattle.calculus.specs.Calculus.{Setting, Store, Labelled, Judged, inRegion, mayHold, admit, fetch, eval, judge, authorised, reliable, permit, assignment, written}
 use Rattle.calculus.specs.Reduction.{Region, semantics, asks, _⊢⟨_∣_⟩⇓_^_, Val, Deref, _⊢⟨_∣_⟩⇓if_^_, Guard, Code, _⨾_, ⟨_∣_∣_⟩, _⊢_⟶_, If, Else, While-1, While-2, Assign, Config}
 use Rattle.calculus.specs.Forbidden.{_⊢⟨_∣_⟩⇑_, Val-15, Deref-in, Deref-13, Deref-15, Task, judging, assigning, Tries, Tries-if, Tries-while, Tries-assign, _⊢⟨_∣_⟩✗_, Guard-in, Guard-13, Target-in, Target-13, Value-in, Assign-14, Assign-16}
-use Rattle.calculus.specs.Exact.{ByRule}
+use Rattle.calculus.specs.Exact.{From13To16}
 
 -- Tests and what they say
 
@@ -145,13 +145,13 @@ module _ {ρ : Region} {H : Store} where
   not-forbidden g x y = not-both _ _ _ (asked-ok g x) (asked-no (settingOf ρ) y)
 
   -- the numbers that the rules forbid by
-  eval-numbers : {e : Expr} {n : ℕ} → ρ ⊢⟨ H ∣ e ⟩⇑ n → ByRule n
+  eval-numbers : {e : Expr} {n : ℕ} → ρ ⊢⟨ H ∣ e ⟩⇑ n → From13To16 n
   eval-numbers (Val-15 p) = (omega arith, omega arith)
   eval-numbers (Deref-in x) = eval-numbers x
   eval-numbers (Deref-13 x p) = (omega arith, omega arith)
   eval-numbers (Deref-15 x p q) = (omega arith, omega arith)
 
-  pub by-rule : {t : Task} {n : ℕ} → ρ ⊢⟨ H ∣ t ⟩✗ n → ByRule n
+  pub by-rule : {t : Task} {n : ℕ} → ρ ⊢⟨ H ∣ t ⟩✗ n → From13To16 n
   by-rule (Guard-in x) = eval-numbers x
   by-rule (Guard-13 x p) = (omega arith, omega arith)
   by-rule (Target-in x) = eval-numbers x

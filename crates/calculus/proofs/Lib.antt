@@ -20,12 +20,12 @@ pub mod Milder
 pub mod Ladder
 pub mod OwnRefusals
 pub mod Kept
-pub mod Twins
-pub mod Stepwise
 pub mod Judging
 pub mod Deterministic
 pub mod Reduces
+pub mod Comes
 pub mod Exact
+pub mod Stepwise
 pub mod ByRules
 pub mod Capability
 pub mod Integrity

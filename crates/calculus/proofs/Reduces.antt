@@ -13,13 +13,13 @@ use Rattle.programme.specs.Syntax.{Expr, Cmd, cmd, Body, skip, assign, seq, if,
 use Rattle.programme.specs.Sheet.{Block}
 use Rattle.calculus.specs.Rules.{RuleSet}
 use Rattle.calculus.specs.Calculus.{Setting, State, Stop, judge, counted, performed, step, loop, exec, execBody, execs}
-use Rattle.calculus.specs.Blocks.{Halt, haltIn, setting, runBlocks}
-use Rattle.calculus.specs.Reduction.{Region, Code, done, _⨾_, end⨾_, _⨾⨾_, ⟨_∣_∣_⟩, Seq, Seq-2, End, If, Else, While-1, While-2, Stage, before, during, Start, Prg-1, Prg-1-silent, Comp-2, _⊩_⟹*_, here, after}
-use Rattle.calculus.specs.Forbidden.{Task, Tries, Tries-if, Tries-while, Tries-assign, _⊢⟨_∣_⟩✗_, Forbid, Spend}
-use Rattle.calculus.specs.Exact.{regions}
+use Rattle.calculus.specs.Blocks.{Halt, haltIn, runBlocks}
+use Rattle.calculus.specs.Reduction.{Region, Code, done, _⨾_, end⨾_, _⨾⨾_, ⟨_∣_∣_⟩, Seq, Seq-2, End, If, Else, While-1, While-2, regions, Stage, before, during, Start, Prg-1, Prg-1-silent, Comp-2}
+use Rattle.calculus.specs.Forbidden.{Task, Tries, Tries-if, Tries-while, Tries-assign, _⊢⟨_∣_⟩✗_, Forbid, Due-17}
+use Rattle.calculus.specs.Exact.{_⊩_⟹*_, here, after}
 use Rattle.calculus.proofs.Steps.{exec-counts, post-choose}
 use Rattle.calculus.proofs.Judging.{verdict, judges, assigns}
-use Rattle.calculus.proofs.Deterministic.{finished, forbidden, spent, Ends, all-add}
+use Rattle.calculus.proofs.Deterministic.{finished, forbidden, out-of-budget, Ends, all-add}
 
 module _ {ρ : Header → Region} where
   pub then-all : {P Q R : Stage} → ρ ⊩ P ⟹* Q → ρ ⊩ Q ⟹* R → ρ ⊩ P ⟹* R
@@ -59,7 +59,7 @@ module _ (w : Tables) (rules : RuleSet) (budget i : ℕ) (h : Header) (bs : List
       (post-require _ _ _ _ _
       (λ e. let d : s .steps ≡ budget → ⊥ = eqb-false (s .steps) budget (not-true _ e) in
       post-map _ _ _ _ _ p (λ a q. (q, d)) (λ n q l. (_, here, forbidden (Forbid x q) (omega (arith, d)))))
-      (λ e l. (_, here, spent (Spend x) (eqb-true (s .steps) budget (not-false _ e)))))
+      (λ e l. (_, here, out-of-budget (Due-17 x) (eqb-true (s .steps) budget (not-false _ e)))))
 
   -- a part that is entered from s, where budget was left, by one step
   part : (pc : Label) (PC : List Label) (k k′ : Code) (P : Stage) (s : State) (r : Result Stop State) → (s .steps ≡ budget → ⊥)
@@ -87,7 +87,7 @@ module _ (w : Tables) (rules : RuleSet) (budget i : ℕ) (h : Header) (bs : List
       rounds-go : (n : ℕ) (s : State) → budget ≤ n + s .steps
           → Does (pc ∷ PC) again k s (loop (λ t. step W at t (judge W (t .store) g)) (λ l t. exec W c (meet (w .order) pc l) t) at n s)
       unfolding loop counted
-      rounds-go zero s m = post-refuse _ _ _ (λ l. (_, here, spent (Spend Tries-while) (omega arith)))
+      rounds-go zero s m = post-refuse _ _ _ (λ l. (_, here, out-of-budget (Due-17 Tries-while) (omega arith)))
       rounds-go (suc n) s m =
           post-bind _ _ _ _ _ (tried _ at s _ _ _ _ Tries-while (judges W (s .store) g)) λ j q.
           post-choose _ _ _ _ _ _

@@ -33,11 +33,11 @@ module _ (Q : ℕ → Type 0) (w : Setting) (q : Refusing Q w) where
   evals s (literal v) = admits _
   evals s (read e) = refuses-bind _ _ _ (evals s e) (λ x. refuses-require _ _ _ _ (q .kind) (admits _))
 
-  pub judges : (s : Store) (g : Expr) → Refuses Q (judge w s g)
+  judges : (s : Store) (g : Expr) → Refuses Q (judge w s g)
   unfolding judge
   judges s g = refuses-bind _ _ _ (evals s g) (λ x. refuses-require _ _ _ _ (q .kind) (refuses-ok _ _))
 
-  pub assigns : (branch : Label) (s : Store) (t v : Expr) → Refuses Q (assignment w branch s t v)
+  assigns : (branch : Label) (s : Store) (t v : Expr) → Refuses Q (assignment w branch s t v)
   unfolding assignment permit
   assigns branch s t v =
       refuses-bind _ _ _ (evals s t) λ x.

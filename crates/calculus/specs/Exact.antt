@@ -6,30 +6,32 @@ use mathlib.Core.List.{List, [], _∷_}
 use lib.ListN.{length}
 use Rattle.lattice.specs.Order.{Label, top}
 use Rattle.store.specs.Result.{Result, ok, refuse}
-use Rattle.store.specs.Sheet.{Opening, Tables, slotsBytes}
+use Rattle.store.specs.Sheet.{Opening, slotsBytes}
 use Rattle.programme.specs.declared.Header.{Header}
 use Rattle.programme.specs.Sheet.{Block}
 use Rattle.calculus.specs.Rules.{RuleSet}
 use Rattle.calculus.specs.Calculus.{Store, State}
-use Rattle.calculus.specs.Reduction.{Region, done, ⟨_∣_∣_⟩, Stage, before, during, _⊩_⟹_, _⊩_⟹*_}
+use Rattle.calculus.specs.Reduction.{Region, done, ⟨_∣_∣_⟩, regions, Stage, before, during, _⊩_⟹_}
 use Rattle.calculus.specs.Forbidden.{Forbidden, Due}
 use Rattle.calculus.specs.Blocks.{Halt, haltAnswer, runBlocks, start}
 use Rattle.calculus.specs.Run.{answer, output}
 use Rattle.calculus.specs.Faithful.{Good}
 use Rattle.calculus.specs.Kept.{reached, stateAfter}
 
--- the regions of a programme's blocks
-abbrev pub regions : Tables → RuleSet → Header → Region
-regions w rules h = record { tables = w; rules = rules; header = h }
+infix 10 _⊩_⟹*_
+-- any number of steps, silent ones too
+pub data _⊩_⟹*_ (ρ : Header → Region) : Stage → Stage → Type 0 where
+  here : {P : Stage} → ρ ⊩ P ⟹* P
+  after : {P Q R : Stage} → ρ ⊩ P ⟹ Q → ρ ⊩ Q ⟹* R → ρ ⊩ P ⟹* R
 
 -- the state at a stage
 abbrev pub held : Stage → State
 held (before i n H bs) = record { store = H; steps = n }
 held (during i n h ⟨ H ∣ PC ∣ k ⟩ bs) = record { store = H; steps = n }
 
--- "13 wrong kind .., 14 region lacks authority, 15 write view not allowed to this region, 16 provenance too low"
-abbrev pub ByRule : ℕ → Type 0
-ByRule number = (13 ≤ number) × (number ≤ 16)
+-- the numbers by which the rules forbid
+abbrev pub From13To16 : ℕ → Type 0
+From13To16 number = (13 ≤ number) × (number ≤ 16)
 
 -- Runs by the rules, which know no budget, and beside them the run that `runBlocks` computes under a budget
 module _ (o : Opening) (rules : RuleSet) (blocks : List Block) where
@@ -37,7 +39,7 @@ module _ (o : Opening) (rules : RuleSet) (blocks : List Block) where
   abbrev pub Leads : Stage → Stage → Type 0
   Leads P Q = regions (o .tables) rules ⊩ P ⟹ Q
 
-  -- the run comes by the stage P
+  -- the run reaches the stage P
   abbrev pub Reaches : Stage → Type 0
   Reaches P = regions (o .tables) rules ⊩ before 0 0 (o .store) blocks ⟹* P
 
@@ -52,24 +54,27 @@ module _ (o : Opening) (rules : RuleSet) (blocks : List Block) where
   abbrev pub Forbids : Halt → Type 0
   Forbids h = (P : Stage) × Reaches P × Forbidden (regions (o .tables) rules) P h
 
-  -- it comes to a step, where a budget of the steps done would stop it
-  abbrev pub Pauses : Halt → Type 0
-  Pauses h = (P : Stage) × Reaches P × Due P h
+  -- it comes to a step, where a budget equal to the steps done stops it
+  abbrev pub ComesDue : Halt → Type 0
+  ComesDue h = (P : Stage) × Reaches P × Due P h
 
   abbrev pub under : ℕ → Result Halt State
   under budget = runBlocks (o .tables) rules budget 0 blocks (start (o .store))
 
   -- the budget runs out
-  abbrev pub Spent : ℕ → Type 0
-  Spent budget = (h : Halt) × Pauses h × (h .stop .state .steps ≡ budget) × (under budget ≡ refuse h)
+  abbrev pub RunsOut : ℕ → Type 0
+  RunsOut budget = (h : Halt) × ComesDue h × (h .stop .state .steps ≡ budget) × (under budget ≡ refuse h)
 
   pub record Exact : Type 0 where
-    -- The rules leave no choice. Every stage of a run goes on, or it is the finish, or the rules forbid its next step; never two of these.
+    -- The rules are deterministic. Every stage of a run goes on, or it is the finish, or the rules forbid its next step, by one number; never two
+    -- of these.
     pub determined : {P Q Q′ : Stage} → Leads P Q → Leads P Q′ → Q ≡ Q′
     pub goes-on : (P : Stage) → Reaches P
         → ((Q : Stage) × Leads P Q) ⊎ ((s : State) × (P ≡ finish s)) ⊎ ((h : Halt) × Forbidden (regions (o .tables) rules) P h)
     pub finish-stays : (s : State) (Q : Stage) → Leads (finish s) Q → ⊥
     pub forbidden-stays : (P Q : Stage) (h : Halt) → Forbidden (regions (o .tables) rules) P h → Leads P Q → ⊥
+    pub finish-allowed : (s : State) (h : Halt) → Forbidden (regions (o .tables) rules) (finish s) h → ⊥
+    pub one-forbidden : (P : Stage) (h h′ : Halt) → Forbidden (regions (o .tables) rules) P h → Forbidden (regions (o .tables) rules) P h′ → h ≡ h′
     -- "It is an invariant that PC = [⊤] .. every time a region's command ends with skip." (source 003, IV.B)
     pub block-ends : {i n : ℕ} {h : Header} {H : Store} {PC : List Label} {bs : List Block}
         → Reaches (during i n h ⟨ H ∣ PC ∣ done ⟩ bs) → PC ≡ top (o .tables .order) ∷ []
@@ -77,16 +82,16 @@ module _ (o : Opening) (rules : RuleSet) (blocks : List Block) where
     -- steps before it are fewer, and by 17 exactly when a step is next and the steps done are as many. There is no other refusal.
     pub finishes : (budget : ℕ) (s : State) → (Finishes s × (s .steps ≤ budget)) ↔ (under budget ≡ ok s)
     pub forbids : (budget : ℕ) (h : Halt)
-        → (Forbids h × (h .stop .state .steps < budget)) ↔ ((under budget ≡ refuse h) × ByRule (h .stop .number))
-    pub spends : (budget : ℕ) (h : Halt)
-        → (Pauses h × (h .stop .state .steps ≡ budget)) ↔ ((under budget ≡ refuse h) × (h .stop .number ≡ 17))
-    pub numbers : (budget : ℕ) (h : Halt) → under budget ≡ refuse h → ByRule (h .stop .number) ⊎ (h .stop .number ≡ 17)
+        → (Forbids h × (h .stop .state .steps < budget)) ↔ ((under budget ≡ refuse h) × From13To16 (h .stop .number))
+    pub runs-out : (budget : ℕ) (h : Halt)
+        → (ComesDue h × (h .stop .state .steps ≡ budget)) ↔ ((under budget ≡ refuse h) × (h .stop .number ≡ 17))
+    pub numbers : (budget : ℕ) (h : Halt) → under budget ≡ refuse h → From13To16 (h .stop .number) ⊎ (h .stop .number ≡ 17)
     -- at each stage the state is the one that `runBlocks` comes to under a budget of the steps done there
     pub everywhere : (P : Stage) → Reaches P → held P ≡ reached (under (held P .steps))
-    -- a budget that is too small is spent; and every budget is, exactly when the run never ends
-    pub cut-short : (s : State) → Finishes s → (budget : ℕ) → budget < s .steps → Spent budget
-    pub cut-before : (h : Halt) → Forbids h → (budget : ℕ) → budget ≤ h .stop .state .steps → Spent budget
-    pub endless : (((s : State) → Finishes s → ⊥) × ((h : Halt) → Forbids h → ⊥)) ↔ ((budget : ℕ) → Spent budget)
+    -- a budget that is too small runs out; and every budget does, exactly when the run never ends
+    pub cut-short : (s : State) → Finishes s → (budget : ℕ) → budget < s .steps → RunsOut budget
+    pub cut-before : (h : Halt) → Forbids h → (budget : ℕ) → budget ≤ h .stop .state .steps → RunsOut budget
+    pub endless : (((s : State) → Finishes s → ⊥) × ((h : Halt) → Forbids h → ⊥)) ↔ ((budget : ℕ) → RunsOut budget)
 
 abbrev pub Exactness : Type 0
 Exactness = (o : Opening) (rules : RuleSet) (blocks : List Block) → Exact o rules blocks
@@ -99,8 +104,8 @@ module _ {store programme : List ℕ} {rule budget room : ℕ} (g : Good store p
   abbrev pub ForbidsWithin : Halt → Type 0
   ForbidsWithin h = Forbids (g .opening) (g .rules) (g .blocks) h × (h .stop .state .steps < budget)
 
-  abbrev pub PausesAtBudget : Halt → Type 0
-  PausesAtBudget h = Pauses (g .opening) (g .rules) (g .blocks) h × (h .stop .state .steps ≡ budget)
+  abbrev pub DueAtBudget : Halt → Type 0
+  DueAtBudget h = ComesDue (g .opening) (g .rules) (g .blocks) h × (h .stop .state .steps ≡ budget)
 
 pub record ByRules (store programme : List ℕ) (rule budget : ℕ) (old : List ℕ) (g : Good store programme rule budget (length old)) : Type 0 where
   -- "a run finishes exactly when the chosen rule set .. finishes within the budget. Output and step count are then the rules' own;"
@@ -110,14 +115,14 @@ pub record ByRules (store programme : List ℕ) (rule budget : ℕ) (old : List 
       × (output store programme rule budget old ≡ slotsBytes (s .store) 0 (g .opening .tables .slots))
   -- "otherwise the number, block, offset and step count belong to the first step that rules or budget forbid", and "a refusal leaves the
   -- output bytes untouched"
-  pub forbids : ByRule (answer store programme rule budget (length old) .number) ↔ ((h : Halt) × ForbidsWithin g h)
+  pub forbids : From13To16 (answer store programme rule budget (length old) .number) ↔ ((h : Halt) × ForbidsWithin g h)
   pub forbidden : (h : Halt) → ForbidsWithin g h
       → (answer store programme rule budget (length old) ≡ haltAnswer h) × (output store programme rule budget old ≡ old)
-  pub spends : (answer store programme rule budget (length old) .number ≡ 17) ↔ ((h : Halt) × PausesAtBudget g h)
-  pub spent : (h : Halt) → PausesAtBudget g h
+  pub runs-out : (answer store programme rule budget (length old) .number ≡ 17) ↔ ((h : Halt) × DueAtBudget g h)
+  pub out-of-budget : (h : Halt) → DueAtBudget g h
       → (answer store programme rule budget (length old) ≡ haltAnswer h) × (output store programme rule budget old ≡ old)
   -- there is no fourth way
-  pub one-of-three : ((s : State) × FinishesWithin g s) ⊎ ((h : Halt) × ForbidsWithin g h) ⊎ ((h : Halt) × PausesAtBudget g h)
+  pub one-of-three : ((s : State) × FinishesWithin g s) ⊎ ((h : Halt) × ForbidsWithin g h) ⊎ ((h : Halt) × DueAtBudget g h)
   -- a run that never ends is out of budget under every budget
   pub endless : ((s : State) → Finishes (g .opening) (g .rules) (g .blocks) s → ⊥) → ((h : Halt) → Forbids (g .opening) (g .rules) (g .blocks) h → ⊥)
       → answer store programme rule budget (length old) .number ≡ 17

@@ -1,4 +1,4 @@
--- Demand 2: a run with good sheets and arguments is exactly what the rule set says. Assumes nothing.
+-- Demand 2 by the functions that compute: a run with good sheets and arguments is what `runBlocks` comes to. By the rules: Exact.antt. Assumes nothing.
 use Prim.Native.Nat.{ℕ, _*_, _≤_, _<_}
 use mathlib.Core.Path.{_≡_}
 use mathlib.Core.Logic.{_↔_}
@@ -24,7 +24,7 @@ pub record Good (store programme : List ℕ) (rule budget room : ℕ) : Type 0 w
   pub taken : programmeSheet (opening .tables .order .n) (opening .tables .slots) programme ≡ ok blocks
   pub fits : room ≡ slotWidth * opening .tables .slots
 
--- the rule set's own run of the blocks: its end, or the first step that the rules or the budget forbid
+-- the run of the blocks as `runBlocks` computes it: its end, or the first step that the rules or the budget forbid
 abbrev pub ownRun : {store programme : List ℕ} {rule budget room : ℕ} → Good store programme rule budget room → Result Halt State
 ownRun {budget = b} g = runBlocks (g .opening .tables) (g .rules) b 0 (g .blocks) (start (g .opening .store))
 
@@ -41,7 +41,7 @@ pub record Faithful (store programme : List ℕ) (rule budget : ℕ) (old : List
       → (answer store programme rule budget (length old) ≡ haltAnswer h) × (output store programme rule budget old ≡ old)
       × (0 < h .stop .number) × (h .stop .state .steps ≤ budget)
 
--- Demand 2, of every run with good sheets and arguments
+-- of every run with good sheets and arguments
 abbrev pub Faithfulness : Type 0
 Faithfulness =
     (store programme : List ℕ) (rule budget : ℕ) (old : List ℕ) (g : Good store programme rule budget (length old))

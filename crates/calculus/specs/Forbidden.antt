@@ -1,5 +1,6 @@
--- The steps that the rules forbid, each by document 01's number, and the step that a spent budget forbids. Source 003 has no rule for them: it
--- leaves such a run stuck. Assumes nothing.
+-- The steps that the rules forbid, and the step that a spent budget forbids: "13 wrong kind for a guard, read or target; 14 region lacks authority;
+-- 15 write view not allowed to this region; 16 provenance too low; 17 budget spent". Source 003 has no rule for them: it leaves such a run stuck. In
+-- a rule's name a number is what forbids, and `in` is a fault of a part. Assumes nothing.
 use Prim.Native.Nat.{ℕ}
 use mathlib.Core.Path.{_≡_}
 use mathlib.Core.Bool.{true, false}
@@ -19,8 +20,8 @@ infix 10 _⊢⟨_∣_⟩⇑_ _⊢⟨_∣_⟩✗_
 pub data _⊢⟨_∣_⟩⇑_ (ρ : Region) (H : Store) : Expr → ℕ → Type 0 where
   Val-15 : {v : Value} → (asks ρ .value v → ⊥) → ρ ⊢⟨ H ∣ literal v ⟩⇑ 15
   Deref-in : {e : Expr} {n : ℕ} → ρ ⊢⟨ H ∣ e ⟩⇑ n → ρ ⊢⟨ H ∣ read e ⟩⇑ n
-  Deref-13 : {e : Expr} {r : Value} {l : Label} → ρ ⊢⟨ H ∣ e ⟩⇓ r ^ l → is readView r ≡ false → ρ ⊢⟨ H ∣ read e ⟩⇑ 13
-  Deref-15 : {e : Expr} {r : Value} {l : Label} → ρ ⊢⟨ H ∣ e ⟩⇓ r ^ l → is readView r ≡ true → (asks ρ .value (contents H (viewed r)) → ⊥)
+  Deref-13 : {e : Expr} {view : Value} {l : Label} → ρ ⊢⟨ H ∣ e ⟩⇓ view ^ l → is readView view ≡ false → ρ ⊢⟨ H ∣ read e ⟩⇑ 13
+  Deref-15 : {e : Expr} {view : Value} {l : Label} → ρ ⊢⟨ H ∣ e ⟩⇓ view ^ l → is readView view ≡ true → (asks ρ .value (contents H (viewed view)) → ⊥)
       → ρ ⊢⟨ H ∣ read e ⟩⇑ 15
 
 -- "A step is one guard judged or one assignment made; nothing else counts." An assignment is made under a branch label.
@@ -33,22 +34,22 @@ pub data _⊢⟨_∣_⟩✗_ (ρ : Region) (H : Store) : Task → ℕ → Type 0
   Guard-in : {g : Expr} {n : ℕ} → ρ ⊢⟨ H ∣ g ⟩⇑ n → ρ ⊢⟨ H ∣ judging g ⟩✗ n
   Guard-13 : {g : Expr} {v : Value} {l : Label} → ρ ⊢⟨ H ∣ g ⟩⇓ v ^ l → is truth v ≡ false → ρ ⊢⟨ H ∣ judging g ⟩✗ 13
   Target-in : {pc : Label} {x y : Expr} {n : ℕ} → ρ ⊢⟨ H ∣ x ⟩⇑ n → ρ ⊢⟨ H ∣ assigning pc x y ⟩✗ n
-  Target-13 : {pc l : Label} {x y : Expr} {r : Value} → ρ ⊢⟨ H ∣ x ⟩⇓ r ^ l → isWriteView r ≡ false → ρ ⊢⟨ H ∣ assigning pc x y ⟩✗ 13
-  Value-in : {pc l : Label} {x y : Expr} {r : Value} {n : ℕ}
-      → ρ ⊢⟨ H ∣ x ⟩⇓ r ^ l → isWriteView r ≡ true → ρ ⊢⟨ H ∣ y ⟩⇑ n → ρ ⊢⟨ H ∣ assigning pc x y ⟩✗ n
-  Assign-14 : {pc l l′ : Label} {x y : Expr} {r v : Value}
-      → ρ ⊢⟨ H ∣ x ⟩⇓ r ^ l → isWriteView r ≡ true → ρ ⊢⟨ H ∣ y ⟩⇓ v ^ l′
-      → (asks ρ .slot (viewed r) → ⊥) → ρ ⊢⟨ H ∣ assigning pc x y ⟩✗ 14
-  Assign-16 : {pc l l′ : Label} {x y : Expr} {r v : Value}
-      → ρ ⊢⟨ H ∣ x ⟩⇓ r ^ l → isWriteView r ≡ true → ρ ⊢⟨ H ∣ y ⟩⇓ v ^ l′
-      → asks ρ .slot (viewed r) → (asks ρ .labels (viewed r) l l′ pc → ⊥) → ρ ⊢⟨ H ∣ assigning pc x y ⟩✗ 16
+  Target-13 : {pc l : Label} {x y : Expr} {view : Value} → ρ ⊢⟨ H ∣ x ⟩⇓ view ^ l → isWriteView view ≡ false → ρ ⊢⟨ H ∣ assigning pc x y ⟩✗ 13
+  Value-in : {pc l : Label} {x y : Expr} {view : Value} {n : ℕ}
+      → ρ ⊢⟨ H ∣ x ⟩⇓ view ^ l → isWriteView view ≡ true → ρ ⊢⟨ H ∣ y ⟩⇑ n → ρ ⊢⟨ H ∣ assigning pc x y ⟩✗ n
+  Assign-14 : {pc l l′ : Label} {x y : Expr} {view v : Value}
+      → ρ ⊢⟨ H ∣ x ⟩⇓ view ^ l → isWriteView view ≡ true → ρ ⊢⟨ H ∣ y ⟩⇓ v ^ l′
+      → (asks ρ .slot (viewed view) → ⊥) → ρ ⊢⟨ H ∣ assigning pc x y ⟩✗ 14
+  Assign-16 : {pc l l′ : Label} {x y : Expr} {view v : Value}
+      → ρ ⊢⟨ H ∣ x ⟩⇓ view ^ l → isWriteView view ≡ true → ρ ⊢⟨ H ∣ y ⟩⇓ v ^ l′
+      → asks ρ .slot (viewed view) → (asks ρ .labels (viewed view) l l′ pc → ⊥) → ρ ⊢⟨ H ∣ assigning pc x y ⟩✗ 16
 
 -- the step that code comes to under its stack of branch labels: "offset of the command's first byte in its block", and the task
 pub data Tries : List Label → Code → ℕ → Task → Type 0 where
-  Tries-if : {pc : Label} {PC : List Label} {at end : ℕ} {g : Expr} {c d : Cmd} {k : Code} → Tries (pc ∷ PC) (cmd at end (if g c d) ⨾ k) at (judging g)
-  Tries-while : {pc : Label} {PC : List Label} {at end : ℕ} {g : Expr} {c : Cmd} {k : Code} → Tries (pc ∷ PC) (cmd at end (while g c) ⨾ k) at (judging g)
-  Tries-assign : {pc : Label} {PC : List Label} {at end : ℕ} {x y : Expr} {k : Code}
-      → Tries (pc ∷ PC) (cmd at end (assign x y) ⨾ k) at (assigning pc x y)
+  Tries-if : {pc : Label} {PC : List Label} {at to : ℕ} {g : Expr} {c d : Cmd} {k : Code} → Tries (pc ∷ PC) (cmd at to (if g c d) ⨾ k) at (judging g)
+  Tries-while : {pc : Label} {PC : List Label} {at to : ℕ} {g : Expr} {c : Cmd} {k : Code} → Tries (pc ∷ PC) (cmd at to (while g c) ⨾ k) at (judging g)
+  Tries-assign : {pc : Label} {PC : List Label} {at to : ℕ} {x y : Expr} {k : Code}
+      → Tries (pc ∷ PC) (cmd at to (assign x y) ⨾ k) at (assigning pc x y)
 
 -- By the rules: a run that may not go on, and how it is stopped. "A forbidden step is not counted."
 pub data Forbidden (ρ : Header → Region) : Stage → Halt → Type 0 where
@@ -56,8 +57,7 @@ pub data Forbidden (ρ : Header → Region) : Stage → Halt → Type 0 where
       → Tries PC k at t → ρ h ⊢⟨ H ∣ t ⟩✗ number
       → Forbidden ρ (during i n h ⟨ H ∣ PC ∣ k ⟩ bs) (haltIn i (stopAt at (record { store = H; steps = n }) number))
 
--- By a budget: a run whose step is next, and how a budget of as many steps as are done stops it: "Before each step, if steps done equal the
--- budget, the run is spent."
+-- By a budget: a run that comes to a step, and how it is stopped there: "Before each step, if steps done equal the budget, the run is spent."
 pub data Due : Stage → Halt → Type 0 where
-  Spend : {i n at : ℕ} {h : Header} {H : Store} {PC : List Label} {k : Code} {t : Task} {bs : List Block}
+  Due-17 : {i n at : ℕ} {h : Header} {H : Store} {PC : List Label} {k : Code} {t : Task} {bs : List Block}
       → Tries PC k at t → Due (during i n h ⟨ H ∣ PC ∣ k ⟩ bs) (haltIn i (stopAt at (record { store = H; steps = n }) 17))

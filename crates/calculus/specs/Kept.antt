@@ -118,6 +118,8 @@ module _ {store programme : List ℕ} {rule budget room : ℕ} (g : Good store p
 pub record Stepwise (store programme : List ℕ) (rule budget room : ℕ) (g : Good store programme rule budget room) : Type 0 where
   pub opens : stateAfter g 0 ≡ start (g .opening .store)
   pub goes : (k : ℕ) → Next g k (runAfter g (k + 1))
+  -- the step that is next is one: block, offset, state, branch label and expressions
+  pub one-next : (k : ℕ) (p q : OutOfBudget g k) → (p .number ≡ q .number) × (p .block ≡ q .block) × (p .place ≡ q .place)
   pub counts : (k k′ : ℕ) → k ≤ k′ → stateAfter g k .steps ≡ min k (stateAfter g k′ .steps)
   pub ends : runAfter g budget ≡ ownRun g
 

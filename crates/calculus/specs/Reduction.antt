@@ -1,7 +1,9 @@
--- The calculus as rules, with neither budget nor fuel: source 003, figures 2 to 4, with document 01's changes. A rule has its name there, less the
--- prefix of a semantics (A, C, EP, FP, or X for any). Where our copy is damaged document 01 decides: in figure 2 the rules of expressions, the
--- premises of A-Assign and C-Assign, and X-while 2; in figure 3 EP-Deref; in figure 4 FP-while, FP-endif, FP-endwhile and FP-Assign. H(r) is
--- `contents`, H[r ↦ v] is `written`. Assumes nothing.
+-- The calculus as rules, with neither budget nor fuel: source 003, figures 2 to 4, with document 01's changes; figure 1 is programme's Syntax.antt.
+-- A rule of the source's has its name there, less the prefix (A, C, EP, FP; X for A and C); `Guard`, `Seq`, `End`, `Start` and `Prg-1-silent` are
+-- ours. Labels and the stack go along under every rule set: figure 2 has neither, figure 3 no stack. Where the source comes to skip, what stands
+-- behind it is left; `done` is a block's last skip. H(r) is `contents`, H[r ↦ v] is `written`. Damaged in our copy, so that document 01 and the
+-- source's text decide: in figure 2 the rules of expressions, the premises of A-Assign and C-Assign, what X-while 2 comes to, X-Seq 2, X-Comp 2;
+-- in figure 3 EP-Deref, a premise of EP-Assign; in figure 4 FP-while 1, FP-endif, FP-endwhile, FP-Seq 2, FP-Comp 2, FP-Assign. Assumes nothing.
 use Prim.Native.Nat.{ℕ, _+_}
 use mathlib.Core.Path.{_≡_}
 use mathlib.Core.Bool.{Bool, true, false}
@@ -16,7 +18,7 @@ use Rattle.programme.specs.Sheet.{Block}
 use Rattle.calculus.specs.Rules.{RuleSet, accessControl, capability, explicitProvenance, fullProvenance}
 use Rattle.calculus.specs.Calculus.{Store, contents, written}
 
-infix 10 _⊢⟨_∣_⟩⇓_^_ _⊢⟨_∣_⟩⇓if_^_ _⊢_⇝_ _⊢_⟶_ _⊩_⟹_ _⊩_⟹*_
+infix 10 _⊢⟨_∣_⟩⇓_^_ _⊢⟨_∣_⟩⇓if_^_ _⊢_⇝_ _⊢_⟶_ _⊩_⟹_
 infixr 30 _⨾_ end⨾_ _⨾⨾_
 -- A region ρ, which a block's header gives, and what its rules look up: the lattice, the owners O(r), the rule set
 pub record Region : Type 0 where
@@ -42,9 +44,10 @@ abbrev asking : (Value → Type 0) → (ℕ → Type 0) → (ℕ → Label → L
 asking v r l = record { value = v; slot = r; labels = l }
 
 -- "Rule 0, access control: the region must be at or above the slot's owner."
--- "Rule 1, capability: each literal and each read result .. that is a write view must have an owner at or below the region."
+-- "Rule 1, capability: each literal and each read result, intermediate ones too, that is a write view must have an owner at or below the region."
 -- "Rule 2, explicit provenance: rule 0, and unless the block is endorsed the labels of target and value both stand at or above the owner."
--- "Rule 3, full provenance: rule 2 with one more label, that of the branch." Source 003 asks of the labels' meet what is asked here of each.
+-- "Rule 3, full provenance: rule 2 with one more label, that of the branch." EP-Assign asks of the meet
+-- of its two labels what is asked here of each. That endorsement lifts what is asked of the branch too is document 01's.
 unfoldable pub semantics : RuleSet → Region → Semantics
 semantics accessControl ρ = asking (λ v. Unit) (Covers ρ) (λ r l l′ pc. Unit)
 semantics capability ρ = asking (λ v. isWriteView v ≡ true → Covers ρ (viewed v)) (λ r. Unit) (λ r l l′ pc. Unit)
@@ -60,14 +63,14 @@ pub data _⊢⟨_∣_⟩⇓_^_ (ρ : Region) (H : Store) : Expr → Value → La
   -- "a literal gives its value .. Its label: top for a literal"
   Val : {v : Value} → asks ρ .value v → ρ ⊢⟨ H ∣ literal v ⟩⇓ v ^ top (ρ .tables .order)
   -- "a read needs a read view and gives that slot's present value. Its label: .. the meet of the view's label and the slot's owner."
-  Deref : {e : Expr} {r : Value} {l : Label} → ρ ⊢⟨ H ∣ e ⟩⇓ r ^ l → is readView r ≡ true → asks ρ .value (contents H (viewed r))
-      → ρ ⊢⟨ H ∣ read e ⟩⇓ contents H (viewed r) ^ meet (ρ .tables .order) l (ownerOf (ρ .tables) (viewed r))
+  Deref : {e : Expr} {view : Value} {l : Label} → ρ ⊢⟨ H ∣ e ⟩⇓ view ^ l → is readView view ≡ true → asks ρ .value (contents H (viewed view))
+      → ρ ⊢⟨ H ∣ read e ⟩⇓ contents H (viewed view) ^ meet (ρ .tables .order) l (ownerOf (ρ .tables) (viewed view))
 
 -- "Guard: must be a truth value.": v = tt, or v = ff
 pub data _⊢⟨_∣_⟩⇓if_^_ (ρ : Region) (H : Store) : Expr → Bool → Label → Type 0 where
   Guard : {g : Expr} {v : Value} {b : Bool} {l : Label} → ρ ⊢⟨ H ∣ g ⟩⇓ v ^ l → is truth v ≡ true → holds v ≡ b → ρ ⊢⟨ H ∣ g ⟩⇓if b ^ l
 
--- What is left of a block: commands, and the markers `endif` and `endwhile`. X-Seq 1 is its form: the first command goes on, the rest waits.
+-- What is left of a block: commands, and one marker for `endif` and `endwhile`. Its form is X-Seq 1: the first command goes on, the rest waits.
 pub data Code : Type 0 where
   done : Code
   _⨾_ : Cmd → Code → Code
@@ -83,46 +86,50 @@ pub data Config : Type 0 where
 
 -- Silent: "A step is one guard judged or one assignment made; nothing else counts."
 pub data _⊢_⇝_ (ρ : Region) : Config → Config → Type 0 where
-  -- a sequence is document 01's, of 2 to 255 commands; the source's has two
-  Seq : {H : Store} {PC : List Label} {at end : ℕ} {cs : Cmds} {k : Code} → ρ ⊢ ⟨ H ∣ PC ∣ cmd at end (seq cs) ⨾ k ⟩ ⇝ ⟨ H ∣ PC ∣ cs ⨾⨾ k ⟩
-  Seq-2 : {H : Store} {PC : List Label} {at end : ℕ} {k : Code} → ρ ⊢ ⟨ H ∣ PC ∣ cmd at end skip ⨾ k ⟩ ⇝ ⟨ H ∣ PC ∣ k ⟩
+  -- "22 sequence, a count byte 2 to 255, then that many commands": the source's c; c has two parts. Then "20 skip"
+  Seq : {H : Store} {PC : List Label} {at to : ℕ} {cs : Cmds} {k : Code} → ρ ⊢ ⟨ H ∣ PC ∣ cmd at to (seq cs) ⨾ k ⟩ ⇝ ⟨ H ∣ PC ∣ cs ⨾⨾ k ⟩
+  Seq-2 : {H : Store} {PC : List Label} {at to : ℕ} {k : Code} → ρ ⊢ ⟨ H ∣ PC ∣ cmd at to skip ⨾ k ⟩ ⇝ ⟨ H ∣ PC ∣ k ⟩
   -- FP-endif and FP-endwhile: "after the part, or after each round before judging again, the outer one is back"
   End : {H : Store} {pc : Label} {PC : List Label} {k : Code} → ρ ⊢ ⟨ H ∣ pc ∷ PC ∣ end⨾ k ⟩ ⇝ ⟨ H ∣ PC ∣ k ⟩
 
 -- Counted. "Inside an if-part or a while body it is the meet of the outer one and the guard's label": pc ⊓ ℓ is pushed
 pub data _⊢_⟶_ (ρ : Region) : Config → Config → Type 0 where
-  If : {H : Store} {pc l : Label} {PC : List Label} {at end : ℕ} {g : Expr} {c d : Cmd} {k : Code} → ρ ⊢⟨ H ∣ g ⟩⇓if true ^ l
-      → ρ ⊢ ⟨ H ∣ pc ∷ PC ∣ cmd at end (if g c d) ⨾ k ⟩ ⟶ ⟨ H ∣ meet (ρ .tables .order) pc l ∷ pc ∷ PC ∣ c ⨾ end⨾ k ⟩
-  Else : {H : Store} {pc l : Label} {PC : List Label} {at end : ℕ} {g : Expr} {c d : Cmd} {k : Code} → ρ ⊢⟨ H ∣ g ⟩⇓if false ^ l
-      → ρ ⊢ ⟨ H ∣ pc ∷ PC ∣ cmd at end (if g c d) ⨾ k ⟩ ⟶ ⟨ H ∣ meet (ρ .tables .order) pc l ∷ pc ∷ PC ∣ d ⨾ end⨾ k ⟩
+  If : {H : Store} {pc l : Label} {PC : List Label} {at to : ℕ} {g : Expr} {c d : Cmd} {k : Code}
+      → ρ ⊢⟨ H ∣ g ⟩⇓if true ^ l
+      → ρ ⊢ ⟨ H ∣ pc ∷ PC ∣ cmd at to (if g c d) ⨾ k ⟩ ⟶ ⟨ H ∣ meet (ρ .tables .order) pc l ∷ pc ∷ PC ∣ c ⨾ end⨾ k ⟩
+  Else : {H : Store} {pc l : Label} {PC : List Label} {at to : ℕ} {g : Expr} {c d : Cmd} {k : Code}
+      → ρ ⊢⟨ H ∣ g ⟩⇓if false ^ l
+      → ρ ⊢ ⟨ H ∣ pc ∷ PC ∣ cmd at to (if g c d) ⨾ k ⟩ ⟶ ⟨ H ∣ meet (ρ .tables .order) pc l ∷ pc ∷ PC ∣ d ⨾ end⨾ k ⟩
   -- "A while whose guard is true runs its body and judges again."; one whose guard is false is over, under the labels that it had
-  While-1 : {H : Store} {pc l : Label} {PC : List Label} {at end : ℕ} {g : Expr} {c : Cmd} {k : Code} → ρ ⊢⟨ H ∣ g ⟩⇓if true ^ l
-      → ρ ⊢ ⟨ H ∣ pc ∷ PC ∣ cmd at end (while g c) ⨾ k ⟩ ⟶ ⟨ H ∣ meet (ρ .tables .order) pc l ∷ pc ∷ PC ∣ c ⨾ end⨾ cmd at end (while g c) ⨾ k ⟩
-  While-2 : {H : Store} {pc l : Label} {PC : List Label} {at end : ℕ} {g : Expr} {c : Cmd} {k : Code} → ρ ⊢⟨ H ∣ g ⟩⇓if false ^ l
-      → ρ ⊢ ⟨ H ∣ pc ∷ PC ∣ cmd at end (while g c) ⨾ k ⟩ ⟶ ⟨ H ∣ pc ∷ PC ∣ k ⟩
-  -- "target evaluated first, must be a write view, then the value"; H[r ↦ v]
-  Assign : {H : Store} {pc l l′ : Label} {PC : List Label} {at end : ℕ} {x y : Expr} {k : Code} {r v : Value}
-      → ρ ⊢⟨ H ∣ x ⟩⇓ r ^ l → isWriteView r ≡ true → ρ ⊢⟨ H ∣ y ⟩⇓ v ^ l′
-      → asks ρ .slot (viewed r) → asks ρ .labels (viewed r) l l′ pc
-      → ρ ⊢ ⟨ H ∣ pc ∷ PC ∣ cmd at end (assign x y) ⨾ k ⟩ ⟶ ⟨ written (record { slot = viewed r; value = v }) H ∣ pc ∷ PC ∣ k ⟩
+  While-1 : {H : Store} {pc l : Label} {PC : List Label} {at to : ℕ} {g : Expr} {c : Cmd} {k : Code}
+      → ρ ⊢⟨ H ∣ g ⟩⇓if true ^ l
+      → ρ ⊢ ⟨ H ∣ pc ∷ PC ∣ cmd at to (while g c) ⨾ k ⟩ ⟶ ⟨ H ∣ meet (ρ .tables .order) pc l ∷ pc ∷ PC ∣ c ⨾ end⨾ cmd at to (while g c) ⨾ k ⟩
+  While-2 : {H : Store} {pc l : Label} {PC : List Label} {at to : ℕ} {g : Expr} {c : Cmd} {k : Code}
+      → ρ ⊢⟨ H ∣ g ⟩⇓if false ^ l
+      → ρ ⊢ ⟨ H ∣ pc ∷ PC ∣ cmd at to (while g c) ⨾ k ⟩ ⟶ ⟨ H ∣ pc ∷ PC ∣ k ⟩
+  -- "target evaluated first, must be a write view, then the value"; the label of the value is not stored: "Labels are not kept in slots."
+  Assign : {H : Store} {pc l l′ : Label} {PC : List Label} {at to : ℕ} {x y : Expr} {k : Code} {view v : Value}
+      → ρ ⊢⟨ H ∣ x ⟩⇓ view ^ l → isWriteView view ≡ true → ρ ⊢⟨ H ∣ y ⟩⇓ v ^ l′
+      → asks ρ .slot (viewed view) → asks ρ .labels (viewed view) l l′ pc
+      → ρ ⊢ ⟨ H ∣ pc ∷ PC ∣ cmd at to (assign x y) ⨾ k ⟩ ⟶ ⟨ written (record { slot = viewed view; value = v }) H ∣ pc ∷ PC ∣ k ⟩
 
--- Programmes, ρ{c} ∘ P: "Blocks run in order." With the number of a block and of the steps done: before that block, the store and the
--- blocks from it on; or during it, its header, where it stands, and the blocks after it
+-- Programmes, ρ{c} ∘ P: "Blocks run in order.", over one lattice, one map of owners and under one rule set
+abbrev pub regions : Tables → RuleSet → Header → Region
+regions w rules h = record { tables = w; rules = rules; header = h }
+
+-- A stage of a run has the number of its block and the steps done: before that block, the store and the blocks from it on; during it, its
+-- header, where it stands, and the blocks after it. Below ρ is `regions w rules`.
 pub data Stage : Type 0 where
   before : ℕ → ℕ → Store → List Block → Stage
   during : ℕ → ℕ → Header → Config → List Block → Stage
 
 pub data _⊩_⟹_ (ρ : Header → Region) : Stage → Stage → Type 0 where
-  -- the branch label "is top at a block's start": PC = [⊤]
+  -- the branch label "is top at a block's start"; the source starts a programme under [⊤]
   Start : {i n : ℕ} {H : Store} {b : Block} {bs : List Block}
       → ρ ⊩ before i n H (b ∷ bs) ⟹ during i n (b .header) ⟨ H ∣ top (ρ (b .header) .tables .order) ∷ [] ∣ b .command ⨾ done ⟩ bs
   -- X-Prg 1 and X-Comp 1, silent and counted
   Prg-1-silent : {i n : ℕ} {h : Header} {C D : Config} {bs : List Block} → ρ h ⊢ C ⇝ D → ρ ⊩ during i n h C bs ⟹ during i n h D bs
   Prg-1 : {i n : ℕ} {h : Header} {C D : Config} {bs : List Block} → ρ h ⊢ C ⟶ D → ρ ⊩ during i n h C bs ⟹ during i (n + 1) h D bs
-  -- FP-Comp 2; here the last block too is left, and a run is finished before a block that is not there
+  -- FP-Comp 2. The source ends at the last block's ρ{skip}; here that block is left too, and a run is finished before a block that is not there
   Comp-2 : {i n : ℕ} {h : Header} {H : Store} {PC : List Label} {bs : List Block} → PC ≡ top (ρ h .tables .order) ∷ []
       → ρ ⊩ during i n h ⟨ H ∣ PC ∣ done ⟩ bs ⟹ before (i + 1) n H bs
-
-pub data _⊩_⟹*_ (ρ : Header → Region) : Stage → Stage → Type 0 where
-  here : {P : Stage} → ρ ⊩ P ⟹* P
-  after : {P Q R : Stage} → ρ ⊩ P ⟹ Q → ρ ⊩ Q ⟹* R → ρ ⊩ P ⟹* R

@@ -8,7 +8,7 @@ use lib.ListN.{length, getD}
 use lib.Dec.{ltb, leb, eqb}
 use borrow.Author.Tests.{leb-true, eqb-true}
 use Rattle.store.specs.declared.Value.{Value}
-use Rattle.store.specs.Result.{Result, ok, refuse}
+use Rattle.store.specs.Result.{Result}
 use Rattle.store.specs.Value.{valueWidth, wellFormed, valueAt}
 use Rattle.store.specs.Sheet.{mostSlots}
 use Rattle.store.proofs.Bytes.{formed-more}
