@@ -22,9 +22,9 @@ use Rattle.calculus.specs.Exact.{here, after, held, Exact, Reaches, unde
 use Rattle.calculus.specs.Kept.{reached, runWithin, stateWithin, runAfter, stateAfter, stepAt, Comes, OutOfBudget, due, Next, ended, refused, taken, forbidden, StepByStep}
 use Rattle.calculus.proofs.Kept.{steps-bounded}
 use Rattle.calculus.proofs.Deterministic.{steps-at, due-adds}
-use Rattle.calculus.proofs.Reduces.{then-all, exec-goes}
+use Rattle.calculus.proofs.Reduces.{then-all, exec-goes, LeadsTo, onwards, comes-goes, one-place, outcome-goes}
 use Rattle.calculus.proofs.Exact.{exactness}
-use Rattle.calculus.proofs.Comes.{Before, exec-comes, LeadsTo, onwards, comes-goes, one-place, outcome-goes}
+use Rattle.calculus.proofs.Comes.{Before, exec-comes}
 
 module _ {store programme : List ℕ} {rule budget room : ℕ} (g : Good store programme rule budget room) where
   abbrev w : Tables

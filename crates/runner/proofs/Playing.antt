@@ -10,7 +10,7 @@ use Rattle.lattice.proofs.Order.{good-at, top-lt, mask-top}
 use Rattle.store.specs.declared.Answer.{Answer}
 use Rattle.store.specs.Result.{Result, ok, refuse, _>>=_, refusedAs}
 use Rattle.store.specs.Sheet.{Tables, mostSlots}
-use Rattle.store.proofs.Result.{post-at}
+use Rattle.store.proofs.Result.{post-at, not-both}
 use Rattle.programme.specs.declared.Header.{Header}
 use Rattle.programme.specs.Syntax.{Cmd}
 use Rattle.programme.specs.Code.{readBlock}
@@ -86,9 +86,6 @@ pub record Next (slots : ℕ) (p : List ℕ) (n i : ℕ) (bs : List Block) : Typ
   pub after : blocksFrom slots p n (i + 1) ≡ ok rest
   pub is : bs ≡ record { header = headerAt p i; command = command } ∷ rest
 
-not-ok : {E A : Type 0} (e : E) (a : A) → refuse e ≡ ok a → ⊥
-not-ok e a h = let z : _≡_ {A = ℕ} 0 1 = cc in omega arith
-
 pub next-block : (slots : ℕ) (p : List ℕ) (n i : ℕ) (bs : List Block) → blocksFrom slots p (suc n) i ≡ ok bs → Next slots p n i bs
 unfolding blocksFrom blockAt refusedAs _>>=_
 next-block slots p n i bs h = go (readBlock slots (codeOf p i)) refl h
@@ -96,13 +93,13 @@ next-block slots p n i bs h = go (readBlock slots (codeOf p i)) refl h
     rest : (c : Cmd) → readBlock slots (codeOf p i) ≡ ok c → (r : Result _ (List Block)) → blocksFrom slots p n (i + 1) ≡ r
         → (r >>= λ bs. ok (record { header = headerAt p i; command = c } ∷ bs)) ≡ ok bs → Next slots p n i bs
     rest c q (ok ds) e x = record { command = c; rest = ds; reads = q; after = e; is = cc }
-    rest c q (refuse d) e x = absurd (not-ok _ _ x)
+    rest c q (refuse d) e x = absurd (not-both _ _ _ x refl)
 
     go : (r : Result _ Cmd) → readBlock slots (codeOf p i) ≡ r
         → (refusedAs (inBlock i) r >>= (λ c. ok (record { header = headerAt p i; command = c })) >>= λ b. blocksFrom slots p n (i + 1) >>= λ bs. ok (b ∷ bs)) ≡ ok bs
         → Next slots p n i bs
     go (ok c) e x = rest c e (blocksFrom slots p n (i + 1)) refl x
-    go (refuse d) e x = absurd (not-ok _ _ x)
+    go (refuse d) e x = absurd (not-both _ _ _ x refl)
 
 module _ (w : Tables) (rules : RuleSet) (budget slots : ℕ) (p : List ℕ) (k : ℕ) where
   -- before the first block
