@@ -7,52 +7,52 @@ use native.Mathlib.Omega.{arith}
 use lib.ListN.{length}
 use lib.Seq.{take-length}
 use Rattle.store.specs.declared.Answer.{Answer}
-use Rattle.store.specs.Result.{Result, ok, refuse}
+use Rattle.store.specs.Result.{Result, ok, refuse, says}
 use Rattle.store.specs.Sheet.{slotsBytes}
 use Rattle.calculus.specs.Calculus.{State}
 use Rattle.calculus.specs.Blocks.{Halt, haltAnswer}
-use Rattle.calculus.specs.Run.{answer, output}
+use Rattle.calculus.specs.Run.{Call, answer, output}
 use Rattle.calculus.specs.Faithful.{Good, ownRun, Faithful}
 use Rattle.calculus.specs.Kept.{stateWithin}
 use Rattle.calculus.specs.Exact.{From13To16, FinishesWithin, ForbidsWithin, DueAtBudget, Exact, ByRules, FaithfulnessByRules}
 use Rattle.calculus.proofs.Faithful.{faithfulness}
 use Rattle.calculus.proofs.Exact.{exactness}
 
-module _ (store programme : List ℕ) (rule budget : ℕ) (old : List ℕ) (g : Good store programme rule budget (length old)) where
+module _ (c : Call) (old : List ℕ) (g : Good c) where
   abbrev number : ℕ
-  number = answer store programme rule budget (length old) .number
+  number = answer c .number
 
   x : Exact (g .opening) (g .rules) (g .blocks)
   x = exactness (g .opening) (g .rules) (g .blocks)
 
-  f : Faithful store programme rule budget old g
-  f = faithfulness store programme rule budget old g
+  f : Faithful c old g
+  f = faithfulness c old g
 
   one-of-three : ((s : State) × FinishesWithin g s) ⊎ ((h : Halt) × ForbidsWithin g h) ⊎ ((h : Halt) × DueAtBudget g h)
   one-of-three = go (ownRun g) refl
     where
       go : (r : Result Halt State) → ownRun g ≡ r
           → ((s : State) × FinishesWithin g s) ⊎ ((h : Halt) × ForbidsWithin g h) ⊎ ((h : Halt) × DueAtBudget g h)
-      go (ok s) e = inl (s, x .finishes budget s .1 e)
+      go (ok s) e = inl (s, x .finishes (c .budget) s .1 e)
       go (refuse h) e =
-          inr (⊎-elim (λ n. inl (h, x .forbids budget h .1 (e, n))) (λ n. inr (h, x .runs-out budget h .1 (e, n))) (x .numbers budget h e))
+          inr (⊎-elim (λ n. inl (h, x .forbids (c .budget) h .1 (e, n))) (λ n. inr (h, x .runs-out (c .budget) h .1 (e, n))) (x .numbers (c .budget) h e))
 
   finished : (s : State) → FinishesWithin g s
-      → (answer store programme rule budget (length old) ≡ record { number = 0; block = length (g .blocks); offset = 0; steps = s .steps })
-      × (output store programme rule budget old ≡ slotsBytes (s .store) 0 (g .opening .tables .slots))
-  finished s y = let e = f .ends s (x .finishes budget s .0 y) in (e .0, e .1)
+      → (answer c ≡ says 0 (length (g .blocks)) 0 (s .steps))
+      × (output c old ≡ slotsBytes (s .store) 0 (g .opening .tables .slots))
+  finished s y = let e = f .ends s (x .finishes (c .budget) s .0 y) in (e .0, e .1)
 
   abbrev Refused : Halt → Type 0
-  Refused h = (answer store programme rule budget (length old) ≡ haltAnswer h) × (output store programme rule budget old ≡ old)
+  Refused h = (answer c ≡ haltAnswer h) × (output c old ≡ old)
 
   refused : (h : Halt) → ownRun g ≡ refuse h → Refused h
   refused h e = let r = f .stops h e in (r .0, r .1)
 
   forbidden : (h : Halt) → ForbidsWithin g h → Refused h
-  forbidden h y = refused h (x .forbids budget h .0 y .0)
+  forbidden h y = refused h (x .forbids (c .budget) h .0 y .0)
 
   out-of-budget : (h : Halt) → DueAtBudget g h → Refused h
-  out-of-budget h y = refused h (x .runs-out budget h .0 y .0)
+  out-of-budget h y = refused h (x .runs-out (c .budget) h .0 y .0)
 
   numbered : (h : Halt) → Refused h → number ≡ h .stop .number
   unfolding haltAnswer
@@ -61,15 +61,15 @@ module _ (store programme : List ℕ) (rule budget : ℕ) (old : List ℕ) (g : 
   by-rules : (h : Halt) → ForbidsWithin g h → From13To16 number
   by-rules h y =
       let e = numbered h (forbidden h y) in
-      let r = x .forbids budget h .0 y .1 in (omega (arith, e, r .0), omega (arith, e, r .1))
+      let r = x .forbids (c .budget) h .0 y .1 in (omega (arith, e, r .0), omega (arith, e, r .1))
 
   by-17 : (h : Halt) → DueAtBudget g h → number ≡ 17
-  by-17 h y = numbered h (out-of-budget h y) ∙ x .runs-out budget h .0 y .1
+  by-17 h y = numbered h (out-of-budget h y) ∙ x .runs-out (c .budget) h .0 y .1
 
   by-0 : (s : State) → FinishesWithin g s → number ≡ 0
   by-0 s y = ap (λ (a : Answer). a .number) (finished s y .0)
 
-  by-the-rules : ByRules store programme rule budget old g
+  by-the-rules : ByRules c old g
   unfolding stateWithin
   by-the-rules =
       record {

@@ -1,11 +1,10 @@
 -- Under capability, where no write view of a protected slot is at hand, none comes up. Assumes nothing.
 use Prim.Native.Nat.{ℕ, _≤_, _<_}
-use mathlib.Core.Path.{_≡_, refl}
+use mathlib.Core.Path.{_≡_, ap}
 use mathlib.Core.Bool.{true, false≢true}
 use mathlib.Core.List.{List}
 use native.Mathlib.Decide.{decLt}
 use native.Mathlib.Omega.{arith}
-use lib.ListN.{length}
 use borrow.Author.Tests.{ltb-true, eqb-true}
 use borrow.Table.Steps.{cases}
 use Rattle.lattice.specs.Tests.{_and_, _or_}
@@ -26,6 +25,7 @@ use Rattle.calculus.specs.Rules.{capability, rulesOf, judgesViews}
 use Rattle.calculus.specs.Calculus.{Setting, Store, State, contents, inRegion, eval, permit, assignment, written, exec}
 use Rattle.calculus.specs.Blocks.{setting}
 use Rattle.calculus.specs.Isolation.{withinReach}
+use Rattle.calculus.specs.Run.{Call}
 use Rattle.calculus.specs.Faithful.{Good}
 use Rattle.calculus.specs.Kept.{Spares, SlotsSpare, BlocksSpare, CapabilitySafety}
 use Rattle.calculus.proofs.Rules.{rules-one}
@@ -113,29 +113,29 @@ module _ (store : List ℕ) (o : Opening) (opens : Opens store o) (a : Label) wh
       go (yes h) = spares-low (o .tables) a _ (opens .formed j) (spares h)
       go (no h) = past-low j (omega arith)
 
-module _ (a : Label) (store programme : List ℕ) (budget : ℕ) (old : List ℕ) (g : Good store programme 1 budget (length old))
+module _ (a : Label) (c : Call) (g : Good c) (is-1 : c .rule ≡ 1)
     (in-a : a < g .opening .tables .order .n) (slots : SlotsSpare (g .opening .tables) a (g .opening .store))
-    (blocks : BlocksSpare (g .opening .tables) a programme) where
+    (blocks : BlocksSpare (g .opening .tables) a (c .programme)) where
   abbrev w : Tables
   w = g .opening .tables
 
   abbrev u : Store
   u = g .opening .store
 
-  opens : Opens store (g .opening)
-  opens = post-at _ _ _ _ (store-opens store) (g .opens)
+  opens : Opens (c .store) (g .opening)
+  opens = post-at _ _ _ _ (store-opens (c .store)) (g .opens)
 
   pub opening-safe : Safe w a u u
-  opening-safe = record { agree = agree-refl w a u; low = λ j. low-at store (g .opening) opens a j (λ h. slots j h) }
+  opening-safe = record { agree = agree-refl w a u; low = λ j. low-at (c .store) (g .opening) opens a j (λ h. slots j h) }
 
-  pub blocks-safe : (k j : ℕ) (b : Block) → IsBlock (w .slots) programme j b → Keeps (Safe w a u) w (g .rules) k j b
+  pub blocks-safe : (k j : ℕ) (b : Block) → IsBlock (w .slots) (c .programme) j b → Keeps (Safe w a u) w (g .rules) k j b
   unfolding rulesOf
   blocks-safe k j b is =
-      keeps-under _ w (g .rules) capability k j b (rules-one 1 capability (g .rules) refl (g .ruled))
-      (block-safe w a (opens .ordered) in-a u programme blocks k j b is)
+      keeps-under _ w (g .rules) capability k j b (rules-one (c .rule) capability (g .rules) (ap rulesOf is-1) (g .ruled))
+      (block-safe w a (opens .ordered) in-a u (c .programme) blocks k j b is)
 
 pub capability-safety : CapabilitySafety
-capability-safety a store programme budget old g in-a slots blocks =
-    protected-kept store programme 1 budget old g (Safe (g .opening .tables) a (g .opening .store))
-    (opening-safe a store programme budget old g in-a slots blocks) (blocks-safe a store programme budget old g in-a slots blocks)
+capability-safety a c old g is-1 in-a slots blocks =
+    protected-kept c old g (Safe (g .opening .tables) a (g .opening .store))
+    (opening-safe a c g is-1 in-a slots blocks) (blocks-safe a c g is-1 in-a slots blocks)
     a (λ s m i p. m .agree .held i (p .above))

@@ -37,7 +37,7 @@ use Rattle.calculus.proofs.Authority.{reach-keeps}
 use Rattle.calculus.proofs.Kept.{Keeps, keeps-under, protected-kept}
 use Rattle.calculus.proofs.Isolation.{same-again, opens}
 use Rattle.calculus.proofs.Capability.{Low, gives-within}
-use Rattle.calculus.proofs.Ended.{endGood, endStore, end-part, end-keeps, end-formed, end-kept}
+use Rattle.calculus.proofs.Ended.{endCall, endGood, endStore, end-part, end-keeps, end-formed, end-kept}
 use Rattle.calculus.proofs.Direct.{formed-cases}
 use Rattle.calculus.proofs.Deputy.{outside-left}
 
@@ -91,7 +91,7 @@ module _ (own : Tainted tables 0 (ownerOf tables 1)) (within : withinReach table
     kept : (i : ℕ) → Protected tables 0 i → part out (slotWidth * i) slotWidth ≡ slotBytes (getD s i emptySlot)
     kept =
         end-kept 1 store tables s opening q out x 0 (
-        protected-kept store q 1 (x .budget) (x .old) (endGood 1 store tables s opening q out x) (λ t. Agree tables 0 t s) (agree-refl tables 0 s) block-keeps
+        protected-kept (endCall 1 store tables s opening q out x) (x .old) (endGood 1 store tables s opening q out x) (λ t. Agree tables 0 t s) (agree-refl tables 0 s) block-keeps
         0 (λ t m i p. m .held i (p .above)))
 
   noninterference : Noninterference 1 tables 0 (sent 2)

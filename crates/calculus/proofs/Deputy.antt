@@ -23,7 +23,7 @@ use Rattle.calculus.specs.Deputy.{BareBlocksSpare, NoneEndorsedOutside, 
 use Rattle.calculus.proofs.Rules.{views-judged}
 use Rattle.calculus.proofs.Invariant.{Slots}
 use Rattle.calculus.proofs.Isolation.{forth}
-use Rattle.calculus.proofs.Ended.{endGood, endStore, end-part, end-keeps, end-formed, end-kept}
+use Rattle.calculus.proofs.Ended.{endCall, endGood, endStore, end-part, end-keeps, end-formed, end-kept}
 use Rattle.calculus.proofs.Capability.{Low, Safe, opening-safe, blocks-safe, capability-safety}
 use Rattle.calculus.proofs.Provenance.{provenance-safety}
 use Rattle.calculus.proofs.Direct.{direct-write}
@@ -57,7 +57,7 @@ module _ (w : Tables) (a : Label) (p q : List ℕ) (r : Replacement w a p q) whe
 module _ (rule : ℕ) (store : List ℕ) (w : Tables) (s : Store) (sheet : storeSheet store ≡ ok (record { tables = w; store = s }))
     (a : Label) (in-a : a < w .order .n) (p : List ℕ) where
   kept-alike : ((q out : List ℕ) → Replacement w a p q → (x : FinishedRun rule store q out)
-      → ProtectedKept a store q rule (x .budget) (x .old) (endGood rule store w s sheet q out x)) → EndAlike rule w a p store store
+      → ProtectedKept a (endCall rule store w s sheet q out x) (x .old) (endGood rule store w s sheet q out x)) → EndAlike rule w a p store store
   kept-alike k q q′ _ _ r r′ out out′ x x′ i b =
       end-kept rule store w s sheet q out x a (k q out r x) i b ∙ sym (end-kept rule store w s sheet q′ out′ x′ a (k q′ out′ r′ x′) i b)
 
@@ -86,22 +86,23 @@ pub capability-deputy-safety : CapabilityDeputySafety
 capability-deputy-safety a store p w s in-a _ sheet spare =
     no-confused-deputy 1 store w s sheet a in-a p
     (kept-alike 1 store w s sheet a in-a p (λ q out r x.
-    capability-safety a store q (x .budget) (x .old) (endGood 1 store w s sheet q out x) in-a (spare .0) (spare-left w a p q r (spare .1))))
+    capability-safety a (endCall 1 store w s sheet q out x) (x .old) (endGood 1 store w s sheet q out x) refl in-a (spare .0) (spare-left w a p q r (spare .1))))
     low
   where
     low : EndsLow 1 store w s sheet a in-a p
     low q out r x _ =
+        let c = endCall 1 store w s sheet q out x in
         let g = endGood 1 store w s sheet q out x in
         let blocks = spare-left w a p q r (spare .1) in
-        end-keeps 1 store w s sheet q out x (Safe w a s) (opening-safe a store q (x .budget) (x .old) g in-a (spare .0) blocks)
-        (blocks-safe a store q (x .budget) (x .old) g in-a (spare .0) blocks) .low
+        end-keeps 1 store w s sheet q out x (Safe w a s) (opening-safe a c g refl in-a (spare .0) blocks)
+        (blocks-safe a c g refl in-a (spare .0) blocks) .low
 
 -- Theorem 5
 pub deputy-safety : DeputySafety
 deputy-safety a store p w s in-a _ sheet spare =
     no-confused-deputy 2 store w s sheet a in-a p
     (kept-alike 2 store w s sheet a in-a p (λ q out r x.
-    provenance-safety a store q (x .budget) (x .old) (endGood 2 store w s sheet q out x) in-a (spare .0)
+    provenance-safety a (endCall 2 store w s sheet q out x) (x .old) (endGood 2 store w s sheet q out x) refl in-a (spare .0)
     (bare-spare-left w a p q r (spare .1)) (bare-left w a p q r (spare .2))))
     (others-low 2 store w s sheet a in-a p (λ e. omega arith))
 

@@ -31,7 +31,7 @@ use Rattle.programme.proofs.Values.{expr-is-literal}
 use Rattle.calculus.specs.Rules.{RuleSet, accessControl, capability, explicitProvenance, fullProvenance, rulesOf, judgesViews, labelsJudged, allAbove}
 use Rattle.calculus.specs.Calculus.{Setting, Store, State, inRegion, mayHold, admit, eval, authorised, reliable, permit, assignment, counted, written, performed, step, exec, execBody}
 use Rattle.calculus.specs.Blocks.{setting, runBlocks, start}
-use Rattle.calculus.specs.Run.{Finished, runProgramme, runOpened, runUnder, run, answerOf, output}
+use Rattle.calculus.specs.Run.{Call, call, Finished, runProgramme, runOpened, runUnder, run, answerOf, output}
 use Rattle.calculus.specs.Vectors.{lit, one}
 use Rattle.calculus.specs.Isolation.{withinReach}
 use Rattle.calculus.specs.Deputy.{DirectWrite}
@@ -221,7 +221,10 @@ module _ (rule : ℕ) (rules : RuleSet) (ruled : rulesOf rule ≡ ok rules)
   abbrev ending : Finished
   ending = record { blocks = 1; slots = w .slots; state = after i v s }
 
-  sent-run : run store sent rule 1 (length blank) ≡ ok ending
+  abbrev sent-call : Call
+  sent-call = call store sent rule 1 blank
+
+  sent-run : run sent-call ≡ ok ending
   unfolding runProgramme runOpened runUnder run _>>=_ require refusedAs
   sent-run =
       let high = below-top (w .order) (o .ordered .table) (ownerOf w i) (o .ordered .owners i) in
@@ -234,10 +237,10 @@ module _ (rule : ℕ) (rules : RuleSet) (ruled : rulesOf rule ≡ ok rules)
       )
 
   -- what is read back has v's bytes
-  sent-part : part (output store sent rule 1 blank) (slotWidth * i) slotWidth ≡ slotBytes (opened v)
+  sent-part : part (output sent-call blank) (slotWidth * i) slotWidth ≡ slotBytes (opened v)
   unfolding slotBytes opened assigned
   sent-part =
-      output-part store sent blank rule 1 ending sent-run i in-i
+      output-part sent-call blank ending sent-run i in-i
       ∙ ap slotBytes (getD-set-same s i _ emptySlot (omega (arith, o .small, o .sized))) ∙ value-again v
 
   sent-reached : (j : ℕ) → j < kOf sent → withinReach w adversary sent j ≡ true
@@ -250,7 +253,7 @@ module _ (rule : ℕ) (rules : RuleSet) (ruled : rulesOf rule ≡ ok rules)
   direct-write out e =
       record {
         programme = sent;
-        end = output store sent rule 1 blank;
+        end = output sent-call blank;
         sendable = programme-bytes adversary i v (omega (arith, t .few));
         reached = sent-reached;
         finished =

@@ -5,7 +5,7 @@ use mathlib.Core.Bool.{Bool, false, true≢false}
 use mathlib.Core.List.{List, [], _∷_}
 use native.Mathlib.Numerals.{add-one}
 use native.Mathlib.Omega.{arith}
-use lib.ListN.{getD, length, take}
+use lib.ListN.{getD, take}
 use lib.Seq.{getD-set-other}
 use borrow.Table.Steps.{cases}
 use Rattle.lattice.specs.Tests.{some}
@@ -21,7 +21,7 @@ use Rattle.programme.proofs.Placed.{IsBlock, Placed, none, more}
 use Rattle.calculus.specs.Rules.{RuleSet}
 use Rattle.calculus.specs.Calculus.{Store, State, inRegion, written, exec}
 use Rattle.calculus.specs.Blocks.{Halt, haltIn, setting, runBlocks}
-use Rattle.calculus.specs.Run.{answer, output}
+use Rattle.calculus.specs.Run.{Call, answer, output}
 use Rattle.calculus.specs.Faithful.{Good}
 use Rattle.calculus.specs.Kept.{reached, stateWithin, Integrity, WriteIntegrity}
 use Rattle.calculus.proofs.Invariant.{all-ends}
@@ -62,38 +62,38 @@ module _ (w : Tables) (rules : RuleSet) (k i : ℕ) where
         bind-with SlotSame Any Any (refusedAs (haltIn n) (exec (setting w rules k b) (b .command) (top (w .order)) s)) _ _
         (post-all _ _ _ (λ _. tt) (λ _. tt)) (λ t _. one-more (n + 1) bs rest j t (rw e at out)) (λ _. refl)
 
-module _ (store programme : List ℕ) (rule budget : ℕ) (old : List ℕ) (g : Good store programme rule budget (length old)) where
+module _ (c : Call) (old : List ℕ) (g : Good c) where
   abbrev w : Tables
   w = g .opening .tables
 
   abbrev owned : ℕ → ℕ → Bool
-  owned i j = below (w .order) (ownerOf w i) (headerAt programme j .region)
+  owned i j = below (w .order) (ownerOf w i) (headerAt (c .programme) j .region)
 
   within : (k j i : ℕ) → owned i j ≡ false
       → getD (stateWithin g k (j + 1) .store) i emptySlot ≡ getD (stateWithin g k j .store) i emptySlot
   unfolding stateWithin
   within k j i out =
       let e : 0 + j ≡ j = omega arith in
-      rw (add-one) (one-more w (g .rules) k i programme 0 (g .blocks) (blocks-placed store programme rule budget old g) j _ (rw (← e) at out))
+      rw (add-one) (one-more w (g .rules) k i (c .programme) 0 (g .blocks) (blocks-placed c old g) j _ (rw (← e) at out))
 
   -- where no block's region has authority over slot i, no block changes it
-  unowned : (i : ℕ) → some (kOf programme) (owned i) ≡ false → (j : ℕ) (b : Block) → IsBlock (w .slots) programme j b
+  unowned : (i : ℕ) → some (kOf (c .programme)) (owned i) ≡ false → (j : ℕ) (b : Block) → IsBlock (w .slots) (c .programme) j b
       → below (w .order) (ownerOf w i) (b .header .region) ≡ false
   unowned i out j b is = rw (is .header) (is-false _ (λ t. true≢false (sym (some-of _ (owned i) j (is .inside) t) ∙ out)))
 
-  same-output : answer store programme rule budget (length old) .number ≡ 0 → (i : ℕ) → i < w .slots → some (kOf programme) (owned i) ≡ false
-      → part (output store programme rule budget old) (slotWidth * i) slotWidth ≡ slotBytes (getD (g .opening .store) i emptySlot)
+  same-output : answer c .number ≡ 0 → (i : ℕ) → i < w .slots → some (kOf (c .programme)) (owned i) ≡ false
+      → part (output c old) (slotWidth * i) slotWidth ≡ slotBytes (getD (g .opening .store) i emptySlot)
   same-output e i h out =
       let x =
-      put-out-keeps store programme rule budget old g (Steady w (g .rules) 0 i (getD (g .opening .store) i emptySlot)) refl
+      put-out-keeps c old g (Steady w (g .rules) 0 i (getD (g .opening .store) i emptySlot)) refl
       (λ k j b is. block-steady w (g .rules) k i _ j b (unowned i out j b is)) e in
       x .2 i h ∙ ap slotBytes (x .1)
 
-  integrity : Integrity store programme rule budget old g
+  integrity : Integrity c old g
   integrity =
       record {
         held = λ k j i changed. cases (owned i j) (λ e. e) (λ out. absurd (changed (within k j i out)));
-        put-out = λ e i h changed. cases (some (kOf programme) (owned i)) (λ e. e) (λ out. absurd (changed (same-output e i h out)));
+        put-out = λ e i h changed. cases (some (kOf (c .programme)) (owned i)) (λ e. e) (λ out. absurd (changed (same-output e i h out)));
       }
 
 pub write-integrity : WriteIntegrity

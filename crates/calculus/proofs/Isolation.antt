@@ -31,7 +31,7 @@ use Rattle.calculus.specs.Blocks.{runBlocks, start}
 use Rattle.calculus.proofs.Rules.{rules-post}
 use Rattle.calculus.proofs.Taint.{Tainted, Agree}
 use Rattle.calculus.proofs.Noninterference.{Alike, Opposite, alike, reached, blocks-isolated}
-use Rattle.calculus.specs.Run.{Finished, runProgramme, runOpened, runUnder, run, answerOf, outputOf, output}
+use Rattle.calculus.specs.Run.{Call, call, Finished, runProgramme, runOpened, runUnder, run, answerOf, outputOf, output}
 use Rattle.calculus.specs.Vectors.{none}
 use Rattle.calculus.specs.Isolation.{withinReach, StoresAgree, OutputsAgree, Replaced, unchanged, exchanged, Replacement, FullRule, byNumber, byDefault, FullRules, FullRun, RunsAgree, Isolation}
 use Rattle.calculus.specs.Deputy.{NoneEndorsedOutside}
@@ -101,34 +101,35 @@ module _ (w : Tables) (a : Label) where
     pub slots′ : f′ .slots ≡ w .slots
     pub agree : Alike w a (f .state) (f′ .state)
 
-  module _ (o : Ordered w) (in-a : a < w .order .n) (store store′ : List ℕ) (s s′ : Store)
-      (sheet : storeSheet store ≡ ok (record { tables = w; store = s })) (sheet′ : storeSheet store′ ≡ ok (record { tables = w; store = s′ }))
-      (m : Agree w a s s′) (p q q′ : List ℕ) (bare : NoneEndorsedOutside w a p) (r : Replacement w a p q) (r′ : Replacement w a p q′) where
-    programmes-opposite : Post₂ (Each (Opposite w a)) (programmeSheet (w .order .n) (w .slots) q) (programmeSheet (w .order .n) (w .slots) q′)
+  module _ (o : Ordered w) (in-a : a < w .order .n) (c c′ : Call) (full : FullRule (c .rule)) (full′ : FullRule (c′ .rule)) (s s′ : Store)
+      (sheet : storeSheet (c .store) ≡ ok (record { tables = w; store = s })) (sheet′ : storeSheet (c′ .store) ≡ ok (record { tables = w; store = s′ }))
+      (m : Agree w a s s′) (p : List ℕ) (bare : NoneEndorsedOutside w a p)
+      (r : Replacement w a p (c .programme)) (r′ : Replacement w a p (c′ .programme)) where
+    programmes-opposite : Post₂ (Each (Opposite w a))
+        (programmeSheet (w .order .n) (w .slots) (c .programme)) (programmeSheet (w .order .n) (w .slots) (c′ .programme))
     programmes-opposite =
-        programmes₂ (Opposite w a) _ _ q q′ (r′ .count ∙ sym (r .count))
-        (λ i l. let k : i < kOf p = rw (r .count) at l in opposite _ p q q′ i (bare i k) (r .each i k) (r′ .each i k))
+        programmes₂ (Opposite w a) _ _ (c .programme) (c′ .programme) (r′ .count ∙ sym (r .count))
+        (λ i l. let k : i < kOf p = rw (r .count) at l in opposite _ p _ _ i (bare i k) (r .each i k) (r′ .each i k))
 
-    runs₂ : (rule rule′ budget budget′ room room′ : ℕ) → FullRule rule → FullRule rule′
-        → Post₂ Ends (run store q rule budget room) (run store′ q′ rule′ budget′ room′)
+    runs₂ : Post₂ Ends (run c) (run c′)
     unfolding runProgramme runOpened runUnder run start _>>=_ refusedAs
-    runs₂ rule rule′ budget budget′ room room′ full full′ =
-        rw (full-rules rule full, full-rules rule′ full′) (post₂-require _ _ _ _ _ _ _ (
+    runs₂ =
+        rw (full-rules (c .rule) full, full-rules (c′ .rule) full′) (post₂-require _ _ _ _ _ _ _ (
         rw (sheet, sheet′) (
         post₂-bind _ _ _ _ _ _ programmes-opposite λ bs cs k.
         post₂-require _ _ _ _ _ _ _ (
         post₂-bind _ _ _ _ _ _
-        (post₂-refused-as _ _ _ _ _ (blocks-isolated w a o in-a budget budget′ bs cs k 0 (start s) (start s′) m)) λ u v n.
+        (post₂-refused-as _ _ _ _ _ (blocks-isolated w a o in-a (c .budget) (c′ .budget) bs cs k 0 (start s) (start s′) m)) λ u v n.
         post₂-ok _ _ _ _ (record { slots = refl; slots′ = refl; agree = n })))))
 
 -- Outputs
 
 -- slot i in the output of a run that finished
-pub output-part : (store programme old : List ℕ) (rule budget : ℕ) (f : Finished) → run store programme rule budget (length old) ≡ ok f
+pub output-part : (c : Call) (old : List ℕ) (f : Finished) → run c ≡ ok f
     → (i : ℕ) → i < f .slots
-    → part (output store programme rule budget old) (slotWidth * i) slotWidth ≡ slotBytes (getD (f .state .store) i emptySlot)
+    → part (output c old) (slotWidth * i) slotWidth ≡ slotBytes (getD (f .state .store) i emptySlot)
 unfolding outputOf
-output-part store programme old rule budget f e i h =
+output-part c old f e i h =
     ap (λ (r : Result Answer Finished). part (outputOf r old) (slotWidth * i) slotWidth) e ∙ slot-part (f .state .store) (f .slots) i h
 
 pub opens : (store : List ℕ) (w : Tables) (s : Store) → storeSheet store ≡ ok (record { tables = w; store = s })
@@ -143,14 +144,15 @@ module _ (store : List ℕ) (w : Tables) (s : Store) (sheet : storeSheet store �
   abbrev blank : List ℕ
   blank = replicate (slotWidth * w .slots) 0
 
-  run-none : (room : ℕ) → room ≡ slotWidth * w .slots → run store none 3 0 room ≡ ok ending
+  -- as a call under full provenance, without a step
+  abbrev blank-call : Call
+  blank-call = call store none 3 0 blank
+
+  blank-run : run blank-call ≡ ok ending
   unfolding runProgramme runOpened runUnder run ending rulesOf _>>=_ require refusedAs programmeSheet numberAt every startOf blocksFrom runBlocks _and_
-  run-none room e = rw (sheet, eq-eqb room (slotWidth * w .slots) e)
+  blank-run = rw (sheet, eq-eqb (length blank) (slotWidth * w .slots) (length-replicate _ _))
 
-  blank-run : run store none 3 0 (length blank) ≡ ok ending
-  blank-run = run-none (length blank) (length-replicate _ _)
-
-  full-none : FullRun store none (output store none 3 0 blank)
+  full-none : FullRun store none (output blank-call blank)
   unfolding answerOf
   full-none =
       record {
@@ -166,9 +168,9 @@ module _ (store : List ℕ) (w : Tables) (s : Store) (sheet : storeSheet store �
       }
 
   none-part : (i : ℕ) → i < w .slots
-      → part (output store none 3 0 blank) (slotWidth * i) slotWidth ≡ slotBytes (opened (slotValueAt store i))
+      → part (output blank-call blank) (slotWidth * i) slotWidth ≡ slotBytes (opened (slotValueAt store i))
   unfolding ending start
-  none-part i h = output-part store none blank 3 0 ending blank-run i h ∙ ap slotBytes (opens store w s sheet .inside i h)
+  none-part i h = output-part blank-call blank ending blank-run i h ∙ ap slotBytes (opens store w s sheet .inside i h)
 
 -- a programme is a replacement of itself: "or the same again"
 pub same-again : (w : Tables) (a : Label) (p : List ℕ) → Replacement w a p p
@@ -196,16 +198,17 @@ module _ (a : Label) (store store′ : List ℕ) (w : Tables) (s s′ : Store)
       → (p : List ℕ) → NoneEndorsedOutside w a p → (q q′ : List ℕ) → Replacement w a p q → Replacement w a p q′
       → (out out′ : List ℕ) → FullRun store q out → FullRun store′ q′ out′ → OutputsAgree w a out out′
   forth in-a h p bare q q′ r r′ out out′ x x′ i b =
-      let f = run-finished store q (x .rule) (x .run .budget) (length (x .run .old)) (x .run .finishes) in
-      let f′ = run-finished store′ q′ (x′ .rule) (x′ .run .budget) (length (x′ .run .old)) (x′ .run .finishes) in
+      let c = call store q (x .rule) (x .run .budget) (x .run .old) in
+      let c′ = call store′ q′ (x′ .rule) (x′ .run .budget) (x′ .run .old) in
+      let f = run-finished c (x .run .finishes) in
+      let f′ = run-finished c′ (x′ .run .finishes) in
       let e : Ends w a (f .0) (f′ .0) =
       post₂-at _ _ _ _ _
-      (runs₂ w a (opens store w s sheet .ordered) in-a store store′ s s′ sheet sheet′ (opening-agrees h) p q q′ bare r r′
-      (x .rule) (x′ .rule) (x .run .budget) (x′ .run .budget) (length (x .run .old)) (length (x′ .run .old)) (x .full) (x′ .full)) (f .1) (f′ .1) in
+      (runs₂ w a (opens store w s sheet .ordered) in-a c c′ (x .full) (x′ .full) s s′ sheet sheet′ (opening-agrees h) p bare r r′) (f .1) (f′ .1) in
       ap (λ (l : List ℕ). part l (slotWidth * i) slotWidth) (x .run .ends)
-      ∙ output-part store q (x .run .old) (x .rule) (x .run .budget) (f .0) (f .1) i (rw (e .slots) (b .inside))
+      ∙ output-part c (x .run .old) (f .0) (f .1) i (rw (e .slots) (b .inside))
       ∙ ap slotBytes (e .agree .held i (b .above))
-      ∙ sym (output-part store′ q′ (x′ .run .old) (x′ .rule) (x′ .run .budget) (f′ .0) (f′ .1) i (rw (e .slots′) (b .inside)))
+      ∙ sym (output-part c′ (x′ .run .old) (f′ .0) (f′ .1) i (rw (e .slots′) (b .inside)))
       ∙ sym (ap (λ (l : List ℕ). part l (slotWidth * i) slotWidth) (x′ .run .ends))
 
   back : Bytes store → Bytes store′ → RunsAgree w a store store′ → StoresAgree w a s s′

@@ -3,7 +3,7 @@ use Prim.Native.Nat.{ℕ, _+_, _*_, _≤_, _<_}
 use mathlib.Core.Path.{_≡_, ap, _∙_}
 use mathlib.Core.List.{List, [], _∷_}
 use native.Mathlib.Omega.{arith}
-use lib.ListN.{length, getD}
+use lib.ListN.{getD}
 use lib.Seq.{take-length}
 use Rattle.lattice.specs.Order.{Label, top}
 use Rattle.store.specs.Result.{Result, ok, refuse}
@@ -17,7 +17,7 @@ use Rattle.programme.proofs.Placed.{IsBlock, Placed, none, more, placed-map, pr
 use Rattle.calculus.specs.Rules.{RuleSet}
 use Rattle.calculus.specs.Calculus.{Store, State, exec}
 use Rattle.calculus.specs.Blocks.{Halt, setting, runBlocks, start}
-use Rattle.calculus.specs.Run.{answer, output}
+use Rattle.calculus.specs.Run.{Call, answer, output}
 use Rattle.calculus.specs.Faithful.{Good}
 use Rattle.calculus.specs.Isolation.{StoresAgree}
 use Rattle.calculus.specs.Kept.{reached, stateWithin, storeAfter, ProtectedKept}
@@ -58,15 +58,15 @@ module _ (I : Store → Type 0) where
   blocks-keep w rules k i (b ∷ bs) (more p ps) s m =
       post-bind _ _ _ _ _ (post-refused-as _ _ _ _ (p s m)) (λ t q. blocks-keep w rules k (i + 1) bs ps t q)
 
-module _ (store programme : List ℕ) (rule budget : ℕ) (old : List ℕ) (g : Good store programme rule budget (length old)) where
+module _ (c : Call) (old : List ℕ) (g : Good c) where
   abbrev w : Tables
   w = g .opening .tables
 
-  pub blocks-placed : Placed (IsBlock (w .slots) programme) 0 (g .blocks)
-  blocks-placed = post-at _ _ _ _ (programme-placed _ _ programme) (g .taken)
+  pub blocks-placed : Placed (IsBlock (w .slots) (c .programme)) 0 (g .blocks)
+  blocks-placed = post-at _ _ _ _ (programme-placed _ _ (c .programme)) (g .taken)
 
   module _ (I : Store → Type 0) (opens : I (g .opening .store))
-      (keeps : (k j : ℕ) (b : Block) → IsBlock (w .slots) programme j b → Keeps I w (g .rules) k j b) where
+      (keeps : (k j : ℕ) (b : Block) → IsBlock (w .slots) (c .programme) j b → Keeps I w (g .rules) k j b) where
     -- after any number of steps
     pub run-keeps : (k : ℕ) → RunEnds I (runBlocks w (g .rules) k 0 (g .blocks) (start (g .opening .store)))
     unfolding start
@@ -77,21 +77,21 @@ module _ (store programme : List ℕ) (rule budget : ℕ) (old : List ℕ) (g : 
     held-keeps k = at-reached (λ s. I (s .store)) _ (rw (take-length (g .blocks)) (run-keeps k))
 
     -- a run that finishes puts out a store of which I holds
-    pub put-out-keeps : answer store programme rule budget (length old) .number ≡ 0
+    pub put-out-keeps : answer c .number ≡ 0
         → (s : Store) × I s
-        × ((i : ℕ) → i < w .slots → part (output store programme rule budget old) (slotWidth * i) slotWidth ≡ slotBytes (getD s i emptySlot))
+        × ((i : ℕ) → i < w .slots → part (output c old) (slotWidth * i) slotWidth ≡ slotBytes (getD s i emptySlot))
     put-out-keeps e =
-        let f = faithfulness store programme rule budget old g in
+        let f = faithfulness c old g in
         let x = f .finishes .0 e in (
           x .0 .store,
-          post-at _ _ _ _ (run-keeps budget) (x .1),
+          post-at _ _ _ _ (run-keeps (c .budget)) (x .1),
           λ i h.
               ap (λ (l : List ℕ). part l (slotWidth * i) slotWidth) (f .ends (x .0) (x .1) .1) ∙ slot-part (x .0 .store) (w .slots) i h,
         )
 
     -- where I says that the protected slots are as they were, they are
     pub protected-kept : (a : Label) → ((s : Store) → I s → StoresAgree w a s (g .opening .store))
-        → ProtectedKept a store programme rule budget old g
+        → ProtectedKept a c old g
     protected-kept a agree =
         record {
           held = λ k. agree _ (held-keeps k);

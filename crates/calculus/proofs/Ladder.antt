@@ -5,7 +5,6 @@ use mathlib.Core.Logic.{⊎-elim}
 use mathlib.Core.Bool.{Bool, true, false}
 use mathlib.Core.List.{List, [], _∷_, _++_}
 use native.Mathlib.Omega.{arith}
-use lib.ListN.{length}
 use lib.Dec.{leb}
 use borrow.Author.Tests.{le-leb}
 use Rattle.lattice.specs.Tests.{_and_, _implies_}
@@ -20,7 +19,7 @@ use Rattle.programme.specs.Sheet.{Block}
 use Rattle.calculus.specs.Rules.{RuleSet, accessControl, capability, explicitProvenance, fullProvenance, rulesOf, judgesViews, judgesRegion, labelsJudged, allAbove}
 use Rattle.calculus.specs.Calculus.{Store, State, inRegion, authorised, reliable}
 use Rattle.calculus.specs.Blocks.{Halt, haltAnswer, setting, runBlocks, mostBudget, start}
-use Rattle.calculus.specs.Run.{Finished, runProgramme, runOpened, runUnder, run, answerOf, outputOf}
+use Rattle.calculus.specs.Run.{Call, underRule, withBudget, Finished, runProgramme, runOpened, runUnder, run, answerOf, outputOf}
 use Rattle.calculus.specs.Ladder.{Descent, Ladder, Budgets, Further}
 use Rattle.calculus.proofs.Blocks.{halted}
 use Rattle.calculus.proofs.Unless.{Unless, same-test, unless-same, unless-require, unless-then, unless-refused-as}
@@ -56,10 +55,17 @@ module _ {own : ℕ} {rules rules′ : RuleSet} {budget budget′ : ℕ} (allowe
   unfolding start
   played t blocks s = blocks-eased t (m t) 0 blocks (start s) (record { grown = omega arith; kept = omega arith })
 
-  runs-alike : (store programme : List ℕ) (room : ℕ)
-      → Unless (λ (a : Answer). a .number ≡ own) (runUnder rules store programme budget room) (runUnder rules′ store programme budget′ room)
+  -- a call under each of two rule numbers, with each its budget
+  abbrev first : ℕ → Call → Call
+  first rule c = withBudget budget (underRule rule c)
+
+  abbrev second : ℕ → Call → Call
+  second rule c = withBudget budget′ (underRule rule c)
+
+  runs-alike : (rule rule′ : ℕ) (c : Call)
+      → Unless (λ (a : Answer). a .number ≡ own) (runUnder rules (first rule c)) (runUnder rules′ (second rule′ c))
   unfolding runUnder runOpened runProgramme haltAnswer
-  runs-alike store programme room =
+  runs-alike rule rule′ c =
       rw allowed (
       unless-require _ same-test λ _.
       unless-then unless-same λ o.
@@ -67,10 +73,9 @@ module _ {own : ℕ} {rules rules′ : RuleSet} {budget budget′ : ℕ} (allowe
       unless-require _ same-test λ _.
       unless-then (unless-refused-as _ (played (o .tables) blocks (o .store) .alike)) (λ s. unless-same))
 
-  runs-further : (store programme : List ℕ) (room : ℕ)
-      → AsFar (runUnder rules store programme budget room) (runUnder rules′ store programme budget′ room)
+  runs-further : (rule rule′ : ℕ) (c : Call) → AsFar (runUnder rules (first rule c)) (runUnder rules′ (second rule′ c))
   unfolding runUnder runOpened runProgramme
-  runs-further store programme room =
+  runs-further rule rule′ c =
       rw allowed (
       require-far _ _ _ _ (
       bind-far _ _ _ λ o.
@@ -138,40 +143,38 @@ pub descent : Descent
 unfolding run rulesOf refusedAs _>>=_
 descent =
     record {
-      from-3-to-2 = λ _ _ _ old. ends old (runs-alike refl three-to-two _ _ _);
-      from-2-to-0 = λ _ _ _ old. ends old (runs-alike refl two-to-none _ _ _);
-      from-1-to-0 = λ _ _ _ old. ends old (runs-alike refl views-judged _ _ _);
+      from-3-to-2 = λ c old. ends old (runs-alike refl three-to-two 3 2 c);
+      from-2-to-0 = λ c old. ends old (runs-alike refl two-to-none 2 0 c);
+      from-1-to-0 = λ c old. ends old (runs-alike refl views-judged 1 0 c);
     }
 
 -- 0 is neither 15 nor 16
 pub ladder : Ladder
 ladder =
     record {
-      from-3-to-2 = λ store programme budget old e. descent .from-3-to-2 store programme budget old (λ q. omega arith);
-      from-2-to-0 = λ store programme budget old e. descent .from-2-to-0 store programme budget old (λ q. omega arith);
-      from-1-to-0 = λ store programme budget old e. descent .from-1-to-0 store programme budget old (λ q. omega arith);
+      from-3-to-2 = λ c old e. descent .from-3-to-2 c old (λ q. omega arith);
+      from-2-to-0 = λ c old e. descent .from-2-to-0 c old (λ q. omega arith);
+      from-1-to-0 = λ c old e. descent .from-1-to-0 c old (λ q. omega arith);
     }
+
+both-allowed : {budget budget′ : ℕ} → budget ≤ budget′ → budget′ ≤ mostBudget → leb budget′ mostBudget ≡ leb budget mostBudget
+both-allowed {budget = n} {budget′ = m} l most = rw (le-leb n mostBudget (omega arith), le-leb m mostBudget most)
 
 pub budgets : Budgets
 unfolding run
-budgets store programme rule budget budget′ old l most =
-    ends old
-    (unless-then unless-same λ rules.
-    runs-alike (rw (le-leb budget mostBudget (omega arith), le-leb budget′ mostBudget most)) (larger-budget l) store programme (length old))
+budgets c budget old l most =
+    ends old (unless-then unless-same λ rules. runs-alike (both-allowed l most) (larger-budget l) (c .rule) (c .rule) c)
 
-budgets-further : (store programme : List ℕ) (rule budget budget′ : ℕ) (old : List ℕ) → budget ≤ budget′ → budget′ ≤ mostBudget
-    → AsFar (run store programme rule budget (length old)) (run store programme rule budget′ (length old))
+budgets-further : (c : Call) (budget : ℕ) → c .budget ≤ budget → budget ≤ mostBudget → AsFar (run c) (run (withBudget budget c))
 unfolding run
-budgets-further store programme rule budget budget′ old l most =
-    bind-far _ _ _ λ rules.
-    runs-further (rw (le-leb budget mostBudget (omega arith), le-leb budget′ mostBudget most)) (larger-budget l) store programme (length old)
+budgets-further c budget l most = bind-far _ _ _ λ rules. runs-further (both-allowed l most) (larger-budget l) (c .rule) (c .rule) c
 
 pub further : Further
 unfolding run rulesOf refusedAs _>>=_
 further =
     record {
-      from-3-to-2 = λ store programme budget old. runs-further refl three-to-two store programme (length old);
-      from-2-to-0 = λ store programme budget old. runs-further refl two-to-none store programme (length old);
-      from-1-to-0 = λ store programme budget old. runs-further refl views-judged store programme (length old);
+      from-3-to-2 = λ c. runs-further refl three-to-two 3 2 c;
+      from-2-to-0 = λ c. runs-further refl two-to-none 2 0 c;
+      from-1-to-0 = λ c. runs-further refl views-judged 1 0 c;
       larger-budget = budgets-further;
     }

@@ -31,10 +31,10 @@ never-under n rules rules′ e h = rw e h
 -- so neither is a run
 never-by : (n rule : ℕ) (rules : RuleSet) → (n ≡ 0 → ⊥) → (17 ≡ n → ⊥) → rulesOf rule ≡ ok rules → Never n rules → NeverBy n rule
 unfolding haltAnswer
-never-by n rule rules some unspent r never store programme budget old g e =
-    let f = faithfulness store programme rule budget old g in
-    let q = never-under n rules (g .rules) (rules-one rule rules (g .rules) r (g .ruled)) never in
-    let stops = blocks-refuse-by _ (g .opening .tables) (g .rules) budget (q (g .opening .tables) budget) unspent 0 (g .blocks) _ in
+never-by n rule rules some unspent r never c is g e =
+    let f = faithfulness c [] g in
+    let q = never-under n rules (g .rules) (rules-one (c .rule) rules (g .rules) (ap rulesOf is ∙ r) (g .ruled)) never in
+    let stops = blocks-refuse-by _ (g .opening .tables) (g .rules) (c .budget) (q (g .opening .tables) (c .budget)) unspent 0 (g .blocks) _ in
     go (ownRun g) refl (λ s h. some (sym e ∙ ap (λ (a : Answer). a .number) (f .ends s h .0)))
     (λ h x. post-refused _ _ _ h stops x (sym (ap (λ (a : Answer). a .number) (f .stops h x .0)) ∙ e))
   where

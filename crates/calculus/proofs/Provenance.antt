@@ -1,7 +1,7 @@
 -- Under explicit provenance, where no write view of a protected slot is at hand in a protected slot or as a literal, protected slots are not
 -- written. Assumes nothing.
 use Prim.Native.Nat.{ℕ}
-use mathlib.Core.Path.{_≡_, refl}
+use mathlib.Core.Path.{_≡_, ap}
 use mathlib.Core.Logic.{_⊎_, inl, inr, ⊎-elim}
 use mathlib.Core.Bool.{true, false}
 use mathlib.Core.List.{List}
@@ -82,12 +82,12 @@ module _ (w : Tables) (a : Label) (o : Ordered w) (in-a : Principal w a) (u : St
 
 pub provenance-safety : ProvenanceSafety
 unfolding rulesOf
-provenance-safety a store programme budget old g in-a slots blocks bare =
-    let opens = post-at _ _ _ _ (store-opens store) (g .opens) in
+provenance-safety a c old g is-2 in-a slots blocks bare =
+    let opens = post-at _ _ _ _ (store-opens (c .store)) (g .opens) in
     let w = g .opening .tables in
     let u = g .opening .store in
-    protected-kept store programme 2 budget old g (λ t. Agree w a t u) (agree-refl w a u)
-    (λ k j b is. keeps-under _ w (g .rules) explicitProvenance k j b (rules-one 2 explicitProvenance (g .rules) refl (g .ruled))
+    protected-kept c old g (λ t. Agree w a t u) (agree-refl w a u)
+    (λ k j b is. keeps-under _ w (g .rules) explicitProvenance k j b (rules-one (c .rule) explicitProvenance (g .rules) (ap rulesOf is-2) (g .ruled))
     (block-agrees w a (opens .ordered) in-a u
-    (λ i e. low-at store (g .opening) opens a i (λ h. slots i (record { inside = h; above = e }))) programme blocks bare k j b is))
+    (λ i e. low-at (c .store) (g .opening) opens a i (λ h. slots i (record { inside = h; above = e }))) (c .programme) blocks bare k j b is))
     a (λ s m i p. m .held i (p .above))

@@ -15,6 +15,7 @@ use Rattle.programme.specs.Sheet.{Block, blockAt}
 use Rattle.programme.proofs.Placed.{IsBlock, Placed, none, more, programme-placed}
 use Rattle.calculus.specs.Calculus.{State, Stop, exec}
 use Rattle.calculus.specs.Blocks.{Halt, haltIn, setting, runBlocks, start}
+use Rattle.calculus.specs.Run.{Call}
 use Rattle.calculus.specs.Faithful.{Good}
 use Rattle.calculus.specs.Reduction.{done, before, Start, Comp-2}
 use Rattle.calculus.specs.Forbidden.{Forbid, Due-17}
@@ -26,7 +27,7 @@ use Rattle.calculus.proofs.Reduces.{then-all, exec-goes, LeadsTo, onwar
 use Rattle.calculus.proofs.Exact.{exactness}
 use Rattle.calculus.proofs.Comes.{Before, exec-comes}
 
-module _ {store programme : List ℕ} {rule budget room : ℕ} (g : Good store programme rule budget room) where
+module _ {c : Call} (g : Good c) where
   abbrev w : Tables
   w = g .opening .tables
 
@@ -41,7 +42,7 @@ module _ {store programme : List ℕ} {rule budget room : ℕ} (g : Good store p
 
   module _ (k : ℕ) where
     -- the budget runs out in the n-th block, b, which the run came to in state s
-    module _ (n : ℕ) (b : Block) (bs : List Block) (s : State) (is : IsBlock (w .slots) programme n b) (entered : runWithin g k n ≡ ok s)
+    module _ (n : ℕ) (b : Block) (bs : List Block) (s : State) (is : IsBlock (w .slots) (c .programme) n b) (entered : runWithin g k n ≡ ok s)
         (way : Reaches (g .opening) (g .rules) (g .blocks) (before n (s .steps) (s .store) (b ∷ bs))) (e : Stop)
         (x : Before (Comes (setting w (g .rules) k b) (b .command) (top (w .order)) s) e) (stops : run k ≡ refuse (haltIn n e)) (m : e .number ≡ 17) where
       all-done : e .state .steps ≡ k
@@ -79,7 +80,7 @@ module _ {store programme : List ℕ} {rule budget room : ℕ} (g : Good store p
           refl
 
     -- the run comes to the n-th block in state s; the budget runs out in a block from there on
-    blocks-next : (n : ℕ) (bs : List Block) (s : State) → Placed (IsBlock (w .slots) programme) n bs
+    blocks-next : (n : ℕ) (bs : List Block) (s : State) → Placed (IsBlock (w .slots) (c .programme)) n bs
         → ((j m : ℕ) → j ≡ n + m → runWithin g k j ≡ runBlocks w (g .rules) k n (take m bs) s)
         → Reaches (g .opening) (g .rules) (g .blocks) (before n (s .steps) (s .store) bs)
         → Refuses (λ h. run k ≡ refuse h → h .stop .number ≡ 17 → Next g k (run (k + 1))) (runBlocks w (g .rules) k n bs s)
@@ -98,7 +99,7 @@ module _ {store programme : List ℕ} {rule budget room : ℕ} (g : Good store p
   out-of-budget : (k : ℕ) (h : Halt) → run k ≡ refuse h → h .stop .number ≡ 17 → Next g k (run (k + 1))
   unfolding start
   out-of-budget k h e =
-      let placed = post-at _ _ _ _ (programme-placed _ _ programme) (g .taken) in
+      let placed = post-at _ _ _ _ (programme-placed _ _ (c .programme)) (g .taken) in
       post-refused _ _ _ _ (blocks-next k 0 (g .blocks) (start (g .opening .store)) placed (λ j m i. let q : j ≡ m = omega arith in rw q) here) e e
 
   goes : (k : ℕ) → Next g k (runAfter g (k + 1))
@@ -146,11 +147,11 @@ module _ {store programme : List ℕ} {rule budget room : ℕ} (g : Good store p
 
 pub step-by-step : StepByStep
 unfolding stateWithin start
-step-by-step store programme rule budget room g =
+step-by-step c g =
     record {
       opens = rw (whole g 0) (sym (by-rules g .everywhere _ here));
       goes = goes g;
       one-next = one-next g;
       counts = counts g;
-      ends = whole g budget;
+      ends = whole g (c .budget);
     }

@@ -5,7 +5,7 @@ use mathlib.Core.Logic.{⊎-elim}
 use mathlib.Core.Bool.{true, false, true≢false}
 use mathlib.Core.List.{List, _++_}
 use native.Mathlib.Omega.{arith}
-use lib.ListN.{getD, length}
+use lib.ListN.{getD}
 use Rattle.lattice.specs.Tests.{_and_, _or_, _implies_, every, some, find}
 use Rattle.lattice.specs.Order.{bit, inRange, reflexive, antisymmetric, transitive, isMeet, hasMeets, isTop, hasTop, good, meet, top}
 use Rattle.lattice.proofs.Tests.{some-at, some-of}
@@ -23,7 +23,7 @@ use Rattle.programme.proofs.Literals.{literals-join}
 use Rattle.calculus.specs.Rules.{rulesOf, judgesViews, judgesRegion, labelsJudged, allAbove}
 use Rattle.calculus.specs.Calculus.{contents, inRegion, admit, fetch, eval, judge, authorised, reliable, permit, assignment, counted, written, performed, step, choose, exec, execBody}
 use Rattle.calculus.specs.Blocks.{runBlocks, start}
-use Rattle.calculus.specs.Run.{runProgramme, runOpened, runUnder, run, answerOf, outputOf}
+use Rattle.calculus.specs.Run.{call, runProgramme, runOpened, runUnder, run, answerOf, outputOf}
 use Rattle.calculus.specs.Vectors.{int}
 use Rattle.calculus.specs.Isolation.{withinReach, unchanged, exchanged, Replaced, Replacement}
 use Rattle.calculus.specs.Kept.{Spares}
@@ -98,10 +98,11 @@ changed same = let e : _≡_ {A = ℕ} 41 7 = ap (λ (l : List ℕ). getD l 1 0)
 not-direct : DirectWrite 2 tables 0 sheet 1 left → ⊥
 not-direct d =
     let r = d .finished in
-    let g = good-run sheet (d .programme) 2 (r .budget) (length (r .old)) _ (whole-worked .opens) (r .finishes) in
+    let c = call sheet (d .programme) 2 (r .budget) (r .old) in
+    let g = good-run c _ (whole-worked .opens) (r .finishes) in
     let x =
     some-at _ _
-    (write-integrity sheet (d .programme) 2 (r .budget) (r .old) g .put-out (r .finishes) 1 (whole-worked .protected .inside)
+    (write-integrity c (r .old) g .put-out (r .finishes) 1 (whole-worked .protected .inside)
     (λ same. changed (d .alike ∙ ap (λ (l : List ℕ). part l slotWidth valueWidth) (r .ends) ∙ same))) in
     let o = opens sheet tables slots (whole-worked .opens) .ordered in
     let low = tainted-down tables 0 o (whole-worked .principal) _ _ (x .2) (d .reached (x .0) (x .1)) in

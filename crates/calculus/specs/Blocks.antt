@@ -3,7 +3,7 @@ use Prim.Native.Nat.{ℕ, _+_}
 use mathlib.Core.List.{List, [], _∷_}
 use Rattle.lattice.specs.Order.{top}
 use Rattle.store.specs.declared.Answer.{Answer}
-use Rattle.store.specs.Result.{Result, ok, _>>=_, refusedAs}
+use Rattle.store.specs.Result.{Result, ok, _>>=_, refusedAs, says}
 use Rattle.store.specs.Sheet.{Tables}
 use Rattle.programme.specs.Sheet.{Block}
 use Rattle.calculus.specs.Rules.{RuleSet}
@@ -19,7 +19,7 @@ haltIn i e = record { block = i; stop = e }
 
 -- "A block while it runs (block and offset of the command's first byte in its block)"
 unfoldable pub haltAnswer : Halt → Answer
-haltAnswer h = record { number = h .stop .number; block = h .block; offset = h .stop .offset; steps = h .stop .state .steps }
+haltAnswer h = says (h .stop .number) (h .block) (h .stop .offset) (h .stop .state .steps)
 
 abbrev pub setting : Tables → RuleSet → ℕ → Block → Setting
 setting w rules budget b = record { tables = w; rules = rules; header = b .header; budget = budget }

@@ -4,7 +4,6 @@ use mathlib.Core.Path.{_≡_}
 use mathlib.Core.Logic.{_⊎_}
 use mathlib.Core.Bool.{true, false}
 use mathlib.Core.List.{List}
-use lib.ListN.{length}
 use Rattle.lattice.specs.Order.{Label}
 use Rattle.store.specs.Result.{ok}
 use Rattle.store.specs.Bytes.{Bytes, part}
@@ -12,7 +11,7 @@ use Rattle.store.specs.Value.{valueWidth, slotWidth}
 use Rattle.store.specs.Sheet.{Tables, storeSheet}
 use Rattle.programme.specs.Sheet.{kOf, headerAt}
 use Rattle.calculus.specs.Calculus.{Store, contents}
-use Rattle.calculus.specs.Run.{FinishedRun}
+use Rattle.calculus.specs.Run.{Call, FinishedRun}
 use Rattle.calculus.specs.Faithful.{Good}
 use Rattle.calculus.specs.Isolation.{Protected, withinReach, StoresAgree, OutputsAgree, Replacement, NoneEndorsed, FullRule, RunsAgree}
 use Rattle.calculus.specs.Kept.{Spares, BlockSpares, SlotsSpare, BlocksSpare, ProtectedKept}
@@ -36,12 +35,13 @@ NoneEndorsedOutside w adversary p = (i : ℕ) → i < kOf p → withinReach w ad
 -- What the source shows on the way to theorem 5, under rule 2: protected slots hold their opening values at every step.
 abbrev pub ProvenanceSafety : Type 0
 ProvenanceSafety =
-    (adversary : Label) (store programme : List ℕ) (budget : ℕ) (old : List ℕ) (g : Good store programme 2 budget (length old))
+    (adversary : Label) (c : Call) (old : List ℕ) (g : Good c)
+    → c .rule ≡ 2
     → adversary < g .opening .tables .order .n
     → ProtectedSpare (g .opening .tables) adversary (g .opening .store)
-    → BareBlocksSpare (g .opening .tables) adversary programme
-    → NoneEndorsedOutside (g .opening .tables) adversary programme
-    → ProtectedKept adversary store programme 2 budget old g
+    → BareBlocksSpare (g .opening .tables) adversary (c .programme)
+    → NoneEndorsedOutside (g .opening .tables) adversary (c .programme)
+    → ProtectedKept adversary c old g
 
 -- No confused deputy. Definition 1's context is a programme p with the adversary's code left open: it stands for its replacements. They
 -- are sheets, so lists of bytes, as in demand 3. The source speaks of the slots that an attacker is after, a set that it leaves open; here they

@@ -4,7 +4,8 @@
 use Prim.Native.Nat.{ℕ}
 use mathlib.Core.List.{List, [], _∷_, _++_}
 use Rattle.store.specs.declared.Answer.{Answer}
-use Rattle.calculus.specs.Vectors.{Vector, Hold, runs, says, blank, int, bool, writes, opening, assign, lit, read, while, one, both, copy, raise, keepView, two, branches, branchAt, flagged}
+use Rattle.store.specs.Result.{says}
+use Rattle.calculus.specs.Vectors.{Vector, Hold, runs, blank, int, bool, writes, opening, assign, lit, read, while, one, both, copy, raise, keepView, two, branches, branchAt, flagged}
 
 -- a programme over a store, before and after its rule or its budget is changed
 pub record Example : Type 0 where

@@ -5,7 +5,7 @@ use mathlib.Core.Logic.{_↔_, _⊎_}
 use mathlib.Core.List.{List, [], _∷_}
 use lib.ListN.{length}
 use Rattle.lattice.specs.Order.{Label, top}
-use Rattle.store.specs.Result.{Result, ok, refuse}
+use Rattle.store.specs.Result.{Result, ok, refuse, says}
 use Rattle.store.specs.Sheet.{Opening, slotsBytes}
 use Rattle.programme.specs.declared.Header.{Header}
 use Rattle.programme.specs.Sheet.{Block}
@@ -14,7 +14,7 @@ use Rattle.calculus.specs.Calculus.{Store, State}
 use Rattle.calculus.specs.Reduction.{Region, done, ⟨_∣_∣_⟩, regions, Stage, before, during, _⊩_⟹_}
 use Rattle.calculus.specs.Forbidden.{Forbidden, Due}
 use Rattle.calculus.specs.Blocks.{Halt, haltAnswer, runBlocks, start}
-use Rattle.calculus.specs.Run.{answer, output}
+use Rattle.calculus.specs.Run.{Call, answer, output}
 use Rattle.calculus.specs.Faithful.{Good}
 use Rattle.calculus.specs.Kept.{reached, stateAfter}
 
@@ -97,40 +97,38 @@ abbrev pub Exactness : Type 0
 Exactness = (o : Opening) (rules : RuleSet) (blocks : List Block) → Exact o rules blocks
 
 -- Demand 2 for one call with good sheets and arguments, by the rules: the three ways in which it ends within its budget
-module _ {store programme : List ℕ} {rule budget room : ℕ} (g : Good store programme rule budget room) where
+module _ {c : Call} (g : Good c) where
   abbrev pub FinishesWithin : State → Type 0
-  FinishesWithin s = Finishes (g .opening) (g .rules) (g .blocks) s × (s .steps ≤ budget)
+  FinishesWithin s = Finishes (g .opening) (g .rules) (g .blocks) s × (s .steps ≤ c .budget)
 
   abbrev pub ForbidsWithin : Halt → Type 0
-  ForbidsWithin h = Forbids (g .opening) (g .rules) (g .blocks) h × (h .stop .state .steps < budget)
+  ForbidsWithin h = Forbids (g .opening) (g .rules) (g .blocks) h × (h .stop .state .steps < c .budget)
 
   abbrev pub DueAtBudget : Halt → Type 0
-  DueAtBudget h = ComesDue (g .opening) (g .rules) (g .blocks) h × (h .stop .state .steps ≡ budget)
+  DueAtBudget h = ComesDue (g .opening) (g .rules) (g .blocks) h × (h .stop .state .steps ≡ c .budget)
 
-pub record ByRules (store programme : List ℕ) (rule budget : ℕ) (old : List ℕ) (g : Good store programme rule budget (length old)) : Type 0 where
+pub record ByRules (c : Call) (old : List ℕ) (g : Good c) : Type 0 where
   -- "a run finishes exactly when the chosen rule set .. finishes within the budget. Output and step count are then the rules' own;"
-  pub finishes : (answer store programme rule budget (length old) .number ≡ 0) ↔ ((s : State) × FinishesWithin g s)
+  pub finishes : (answer c .number ≡ 0) ↔ ((s : State) × FinishesWithin g s)
   pub finished : (s : State) → FinishesWithin g s
-      → (answer store programme rule budget (length old) ≡ record { number = 0; block = length (g .blocks); offset = 0; steps = s .steps })
-      × (output store programme rule budget old ≡ slotsBytes (s .store) 0 (g .opening .tables .slots))
+      → (answer c ≡ says 0 (length (g .blocks)) 0 (s .steps))
+      × (output c old ≡ slotsBytes (s .store) 0 (g .opening .tables .slots))
   -- "otherwise the number, block, offset and step count belong to the first step that rules or budget forbid", and "a refusal leaves the
   -- output bytes untouched"
-  pub forbids : From13To16 (answer store programme rule budget (length old) .number) ↔ ((h : Halt) × ForbidsWithin g h)
+  pub forbids : From13To16 (answer c .number) ↔ ((h : Halt) × ForbidsWithin g h)
   pub forbidden : (h : Halt) → ForbidsWithin g h
-      → (answer store programme rule budget (length old) ≡ haltAnswer h) × (output store programme rule budget old ≡ old)
-  pub runs-out : (answer store programme rule budget (length old) .number ≡ 17) ↔ ((h : Halt) × DueAtBudget g h)
+      → (answer c ≡ haltAnswer h) × (output c old ≡ old)
+  pub runs-out : (answer c .number ≡ 17) ↔ ((h : Halt) × DueAtBudget g h)
   pub out-of-budget : (h : Halt) → DueAtBudget g h
-      → (answer store programme rule budget (length old) ≡ haltAnswer h) × (output store programme rule budget old ≡ old)
+      → (answer c ≡ haltAnswer h) × (output c old ≡ old)
   -- there is no fourth way
   pub one-of-three : ((s : State) × FinishesWithin g s) ⊎ ((h : Halt) × ForbidsWithin g h) ⊎ ((h : Halt) × DueAtBudget g h)
   -- a run that never ends is out of budget under every budget
   pub endless : ((s : State) → Finishes (g .opening) (g .rules) (g .blocks) s → ⊥) → ((h : Halt) → Forbids (g .opening) (g .rules) (g .blocks) h → ⊥)
-      → answer store programme rule budget (length old) .number ≡ 17
+      → answer c .number ≡ 17
   -- "at every step" (document 02, N2): each stage of the rules' run has the state after as many steps
   pub everywhere : (P : Stage) → Reaches (g .opening) (g .rules) (g .blocks) P → stateAfter g (held P .steps) ≡ held P
 
--- Demand 2, of every run with good sheets and arguments
+-- Demand 2, of every call with good sheets and arguments
 abbrev pub FaithfulnessByRules : Type 0
-FaithfulnessByRules =
-    (store programme : List ℕ) (rule budget : ℕ) (old : List ℕ) (g : Good store programme rule budget (length old))
-    → ByRules store programme rule budget old g
+FaithfulnessByRules = (c : Call) (old : List ℕ) (g : Good c) → ByRules c old g

@@ -1,7 +1,8 @@
 -- Document 01: "In a step: 17, then the guard, or the target and then the value, each worked from its literal outwards (15 before 13 at each
 -- stage), then 14, then 16." Steps that could be refused by two numbers, each with the one that it is refused by. Assumes nothing.
 use mathlib.Core.List.{List, [], _∷_}
-use Rattle.calculus.specs.Vectors.{Vector, runs, says, blank, int, writes, twoSlots, opening, assign, lit, read, one, copy, Hold}
+use Rattle.store.specs.Result.{says}
+use Rattle.calculus.specs.Vectors.{Vector, runs, blank, int, writes, twoSlots, opening, assign, lit, read, one, copy, Hold}
 use Rattle.calculus.specs.Descents.{noGuard}
 
 unfoldable pub faults : List Vector

@@ -17,7 +17,7 @@ use Rattle.programme.specs.Sheet.{Block, kOf, headerAt, codeOf, blockAt}
 use Rattle.calculus.specs.Calculus.{Setting, Store, Judged, State, contents, judge, assignment, counted, performed, stopAt, exec}
 use Rattle.calculus.specs.Forbidden.{Task, judging, assigning}
 use Rattle.calculus.specs.Blocks.{Halt, haltIn, setting, runBlocks, start}
-use Rattle.calculus.specs.Run.{answer, output}
+use Rattle.calculus.specs.Run.{Call, answer, output}
 use Rattle.calculus.specs.Faithful.{Good, ownRun}
 use Rattle.calculus.specs.Isolation.{Protected, withinReach, StoresAgree}
 
@@ -28,7 +28,7 @@ unfoldable pub reached : Result Halt State → State
 reached (ok s) = s
 reached (refuse h) = h .stop .state
 
-module _ {store programme : List ℕ} {rule budget room : ℕ} (g : Good store programme rule budget room) where
+module _ {c : Call} (g : Good c) where
   -- the run of the first j blocks that k steps are allowed
   abbrev pub runWithin : ℕ → ℕ → Result Halt State
   runWithin k j = runBlocks (g .opening .tables) (g .rules) k 0 (take j (g .blocks)) (start (g .opening .store))
@@ -87,7 +87,7 @@ module _ (w : Setting) where
         → judge w (s .store) g ≡ ok j → j .passes ≡ true → exec w c (inside l j) (counted s) ≡ ok t
         → Comes (cmd at end (while g c)) l t p → Comes (cmd at end (while g c)) l s p
 
-module _ {store programme : List ℕ} {rule budget room : ℕ} (g : Good store programme rule budget room) (k : ℕ) where
+module _ {c : Call} (g : Good c) (k : ℕ) where
   -- "Before each step, if steps done equal the budget, the run is spent": k steps are done, and in a block of the sheet, which the run has
   -- entered with the top label, one more is next
   pub record OutOfBudget : Type 0 where
@@ -95,7 +95,7 @@ module _ {store programme : List ℕ} {rule budget room : ℕ} (g : Good store p
     pub block : Block
     pub entry : State
     pub place : Place
-    pub listed : blockAt (g .opening .tables .slots) programme number ≡ ok block
+    pub listed : blockAt (g .opening .tables .slots) (c .programme) number ≡ ok block
     pub entered : runWithin g k number ≡ ok entry
     pub comes : Comes (setting (g .opening .tables) (g .rules) k block) (block .command) (top (g .opening .tables .order)) entry place
     pub done : place .state .steps ≡ k
@@ -115,17 +115,16 @@ module _ {store programme : List ℕ} {rule budget room : ℕ} (g : Good store p
 
 -- The run goes step by step from the opening store on, each time by the step that is next. The steps done are the smaller of those allowed
 -- and the run's own.
-pub record Stepwise (store programme : List ℕ) (rule budget room : ℕ) (g : Good store programme rule budget room) : Type 0 where
+pub record Stepwise (c : Call) (g : Good c) : Type 0 where
   pub opens : stateAfter g 0 ≡ start (g .opening .store)
   pub goes : (k : ℕ) → Next g k (runAfter g (k + 1))
   -- the step that is next is one: block, offset, state, branch label and expressions
   pub one-next : (k : ℕ) (p q : OutOfBudget g k) → (p .number ≡ q .number) × (p .block ≡ q .block) × (p .place ≡ q .place)
   pub counts : (k k′ : ℕ) → k ≤ k′ → stateAfter g k .steps ≡ min k (stateAfter g k′ .steps)
-  pub ends : runAfter g budget ≡ ownRun g
+  pub ends : runAfter g (c .budget) ≡ ownRun g
 
 abbrev pub StepByStep : Type 0
-StepByStep =
-    (store programme : List ℕ) (rule budget room : ℕ) (g : Good store programme rule budget room) → Stepwise store programme rule budget room g
+StepByStep = (c : Call) (g : Good c) → Stepwise c g
 
 -- Protected slots
 
@@ -147,39 +146,36 @@ BlocksSpare w adversary p = (i : ℕ) → i < kOf p → withinReach w adversary 
 
 -- "Then protected slots still hold their opening values at every step": after any number of steps, and so in the output of a run that
 -- finishes
-pub record ProtectedKept (adversary : Label) (store programme : List ℕ) (rule budget : ℕ) (old : List ℕ)
-    (g : Good store programme rule budget (length old)) : Type 0 where
+pub record ProtectedKept (adversary : Label) (c : Call) (old : List ℕ) (g : Good c) : Type 0 where
   pub held : (k : ℕ) → StoresAgree (g .opening .tables) adversary (storeAfter g k) (g .opening .store)
-  pub put-out : answer store programme rule budget (length old) .number ≡ 0
+  pub put-out : answer c .number ≡ 0
       → (i : ℕ) → Protected (g .opening .tables) adversary i
-      → part (output store programme rule budget old) (slotWidth * i) slotWidth ≡ slotBytes (getD (g .opening .store) i emptySlot)
+      → part (output c old) (slotWidth * i) slotWidth ≡ slotBytes (getD (g .opening .store) i emptySlot)
 
 -- "Under rule 1, let no opening slot hold a write view of a protected slot, and let no block outside the stranger's reach contain one.
 -- Then protected slots still hold their opening values at every step."
 abbrev pub CapabilitySafety : Type 0
 CapabilitySafety =
-    (adversary : Label) (store programme : List ℕ) (budget : ℕ) (old : List ℕ) (g : Good store programme 1 budget (length old))
+    (adversary : Label) (c : Call) (old : List ℕ) (g : Good c)
+    → c .rule ≡ 1
     → adversary < g .opening .tables .order .n
     → SlotsSpare (g .opening .tables) adversary (g .opening .store)
-    → BlocksSpare (g .opening .tables) adversary programme
-    → ProtectedKept adversary store programme 1 budget old g
+    → BlocksSpare (g .opening .tables) adversary (c .programme)
+    → ProtectedKept adversary c old g
 
 -- Write integrity
 
 -- Source 003, theorem 2, under every rule number: a slot that changes while block j runs is owned at or below the block's region. Block j
 -- starts in `stateWithin g k j` and is in `stateWithin g k (j + 1)` when the k steps are done, or it ends or is stopped there. Of the output:
 -- a slot that changed is owned at or below the region of some block.
-pub record Integrity (store programme : List ℕ) (rule budget : ℕ) (old : List ℕ)
-    (g : Good store programme rule budget (length old)) : Type 0 where
+pub record Integrity (c : Call) (old : List ℕ) (g : Good c) : Type 0 where
   pub held : (k j i : ℕ)
       → (getD (stateWithin g k (j + 1) .store) i emptySlot ≡ getD (stateWithin g k j .store) i emptySlot → ⊥)
-      → below (g .opening .tables .order) (ownerOf (g .opening .tables) i) (headerAt programme j .region) ≡ true
-  pub put-out : answer store programme rule budget (length old) .number ≡ 0
+      → below (g .opening .tables .order) (ownerOf (g .opening .tables) i) (headerAt (c .programme) j .region) ≡ true
+  pub put-out : answer c .number ≡ 0
       → (i : ℕ) → i < g .opening .tables .slots
-      → (part (output store programme rule budget old) (slotWidth * i) slotWidth ≡ slotBytes (getD (g .opening .store) i emptySlot) → ⊥)
-      → some (kOf programme) (λ j. below (g .opening .tables .order) (ownerOf (g .opening .tables) i) (headerAt programme j .region)) ≡ true
+      → (part (output c old) (slotWidth * i) slotWidth ≡ slotBytes (getD (g .opening .store) i emptySlot) → ⊥)
+      → some (kOf (c .programme)) (λ j. below (g .opening .tables .order) (ownerOf (g .opening .tables) i) (headerAt (c .programme) j .region)) ≡ true
 
 abbrev pub WriteIntegrity : Type 0
-WriteIntegrity =
-    (store programme : List ℕ) (rule budget : ℕ) (old : List ℕ) (g : Good store programme rule budget (length old))
-    → Integrity store programme rule budget old g
+WriteIntegrity = (c : Call) (old : List ℕ) (g : Good c) → Integrity c old g

@@ -1,18 +1,15 @@
--- Document 02, N2: the rule ladder, and larger budgets, for every store sheet, programme sheet and output. Assumes nothing.
+-- Document 02, N2: the rule ladder, and larger budgets, for every call. Assumes nothing.
 use Prim.Native.Nat.{ℕ, _≤_}
 use mathlib.Core.Path.{_≡_}
 use mathlib.Core.List.{List}
-use lib.ListN.{length}
 use Rattle.calculus.specs.Blocks.{mostBudget}
-use Rattle.calculus.specs.Run.{answer, EndsAlike}
+use Rattle.calculus.specs.Run.{Call, underRule, withBudget, answer, EndsAlike}
 use Rattle.calculus.specs.Faithful.{Good}
 
 -- a run that finishes under the first rule number finishes under the second, with the same answer and the same output
 abbrev pub FinishesToo : ℕ → ℕ → Type 0
 FinishesToo rule rule′ =
-    (store programme : List ℕ) (budget : ℕ) (old : List ℕ)
-    → answer store programme rule budget (length old) .number ≡ 0
-    → EndsAlike store programme rule budget rule′ budget old
+    (c : Call) (old : List ℕ) → answer (underRule rule c) .number ≡ 0 → EndsAlike (underRule rule c) (underRule rule′ c) old
 
 pub record Ladder : Type 0 where
   -- "A run that finishes under rule 3 finishes under rule 2 with the same store and steps."
@@ -24,9 +21,7 @@ pub record Ladder : Type 0 where
 -- What can change on the way down: a run's answer differs under the second rule number only where the first refuses it by `own`.
 abbrev pub ChangesOnly : ℕ → ℕ → ℕ → Type 0
 ChangesOnly own rule rule′ =
-    (store programme : List ℕ) (budget : ℕ) (old : List ℕ)
-    → (answer store programme rule budget (length old) .number ≡ own → ⊥)
-    → EndsAlike store programme rule budget rule′ budget old
+    (c : Call) (old : List ℕ) → (answer (underRule rule c) .number ≡ own → ⊥) → EndsAlike (underRule rule c) (underRule rule′ c) old
 
 pub record Descent : Type 0 where
   pub from-3-to-2 : ChangesOnly 16 3 2
@@ -35,23 +30,17 @@ pub record Descent : Type 0 where
 
 -- A changed answer is never that of an earlier step: the milder run does no fewer steps.
 abbrev pub GoesAsFar : ℕ → ℕ → Type 0
-GoesAsFar rule rule′ =
-    (store programme : List ℕ) (budget : ℕ) (old : List ℕ)
-    → answer store programme rule budget (length old) .steps ≤ answer store programme rule′ budget (length old) .steps
+GoesAsFar rule rule′ = (c : Call) → answer (underRule rule c) .steps ≤ answer (underRule rule′ c) .steps
 
 pub record Further : Type 0 where
   pub from-3-to-2 : GoesAsFar 3 2
   pub from-2-to-0 : GoesAsFar 2 0
   pub from-1-to-0 : GoesAsFar 1 0
-  pub larger-budget : (store programme : List ℕ) (rule budget budget′ : ℕ) (old : List ℕ)
-      → budget ≤ budget′ → budget′ ≤ mostBudget
-      → answer store programme rule budget (length old) .steps ≤ answer store programme rule budget′ (length old) .steps
+  pub larger-budget : (c : Call) (budget : ℕ) → c .budget ≤ budget → budget ≤ mostBudget → answer c .steps ≤ answer (withBudget budget c) .steps
 
 -- What cannot happen: a run with good sheets and arguments is not refused by n under the rule number.
 abbrev pub NeverBy : ℕ → ℕ → Type 0
-NeverBy n rule =
-    (store programme : List ℕ) (budget : ℕ) (old : List ℕ) → Good store programme rule budget (length old)
-    → answer store programme rule budget (length old) .number ≡ n → ⊥
+NeverBy n rule = (c : Call) → c .rule ≡ rule → Good c → answer c .number ≡ n → ⊥
 
 pub record OwnRefusals : Type 0 where
   -- rule 1 does not ask the region
@@ -67,7 +56,7 @@ pub record OwnRefusals : Type 0 where
 -- "A larger allowed budget never alters a run that already got an answer other than 17."
 abbrev pub Budgets : Type 0
 Budgets =
-    (store programme : List ℕ) (rule budget budget′ : ℕ) (old : List ℕ)
-    → budget ≤ budget′ → budget′ ≤ mostBudget
-    → (answer store programme rule budget (length old) .number ≡ 17 → ⊥)
-    → EndsAlike store programme rule budget rule budget′ old
+    (c : Call) (budget : ℕ) (old : List ℕ)
+    → c .budget ≤ budget → budget ≤ mostBudget
+    → (answer c .number ≡ 17 → ⊥)
+    → EndsAlike c (withBudget budget c) old

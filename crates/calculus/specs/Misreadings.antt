@@ -3,7 +3,8 @@
 -- example.) Assumes nothing.
 use Prim.Native.Nat.{ℕ}
 use mathlib.Core.List.{List, [], _∷_, _++_}
-use Rattle.calculus.specs.Vectors.{Vector, Hold, runs, says, blank, int, bool, reads, writes, opening, flagged, assign, lit, read, one, both, copy}
+use Rattle.store.specs.Result.{says}
+use Rattle.calculus.specs.Vectors.{Vector, Hold, runs, blank, int, bool, reads, writes, opening, flagged, assign, lit, read, one, both, copy}
 
 -- Principal 0 is the top, 3 the bottom; 1 and 2 are unrelated. Slot 0, of principal 1, holds a read view of slot 1, of principal 2.
 abbrev pub diamond : List ℕ

@@ -5,22 +5,17 @@ use mathlib.Core.Path.{_≡_}
 use mathlib.Core.List.{List, [], _∷_, _++_, map}
 use lib.ListN.{length, replicate}
 use Rattle.store.specs.declared.Answer.{Answer}
-use Rattle.calculus.specs.Run.{answer, output}
+use Rattle.store.specs.Result.{says}
+use Rattle.calculus.specs.Run.{Call, call, answer, output}
 
 pub record Vector : Type 0 where
-  pub rule : ℕ
-  pub budget : ℕ
-  pub store : List ℕ
-  pub programme : List ℕ
+  pub call : Call
   pub answer : Answer
   pub output : List ℕ
 
 -- what the output slice holds before each run: "Output is 9 × m bytes" (document 02, N3), here of two slots
 abbrev pub blank : List ℕ
 blank = replicate (9 * 2) 0xAA
-
-abbrev pub says : ℕ → ℕ → ℕ → ℕ → Answer
-says number block offset steps = record { number = number; block = block; offset = offset; steps = steps }
 
 -- "A payload becomes 8 bytes and a value 9" (document 02, N3): a value whose payload is below 256. Its bytes are written out, so that the
 -- examples hold the definitions to that width.
@@ -123,8 +118,7 @@ abbrev pub flagged : List ℕ
 flagged = twoSlots (bool 1) (int 7)
 
 abbrev pub runs : ℕ → ℕ → List ℕ → List ℕ → Answer → List ℕ → Vector
-runs rule budget store programme answer output =
-    record { rule = rule; budget = budget; store = store; programme = programme; answer = answer; output = output }
+runs rule budget store programme answer output = record { call = call store programme rule budget blank; answer = answer; output = output }
 
 unfoldable pub vectors : List Vector
 vectors =
@@ -154,17 +148,13 @@ vectors =
     ∷ runs 0 3 opening (one 0 (while 1)) (says 17 0 0 3) blank
     ∷ []
 
--- what the definitions say of a vector's input, and what the vector says
+-- what the definitions say of a vector's call, and what the vector says
 pub record Played : Type 0 where
   pub said : Answer
   pub left : List ℕ
 
 abbrev pub played : Vector → Played
-played v =
-    record {
-      said = answer (v .store) (v .programme) (v .rule) (v .budget) (length blank);
-      left = output (v .store) (v .programme) (v .rule) (v .budget) blank;
-    }
+played v = record { said = answer (v .call); left = output (v .call) blank }
 
 abbrev pub expected : Vector → Played
 expected v = record { said = v .answer; left = v .output }

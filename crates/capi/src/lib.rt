@@ -1,10 +1,10 @@
 // Calls for C and Rust: numbers and byte slices only. A `&[u8]` is passed as a pointer and a length.
 ghost use mathlib.Core.Path.{_≡_};
-ghost use lib.ListN.{length};
 ghost use Rattle.store.specs.Sheet.{storeSheet, tableSheet};
 ghost use Rattle.store.specs.Held.{refusalOf};
 ghost use Rattle.programme.specs.Sheet.{programmeSheet, verdictOf};
-ghost use Rattle.calculus.specs.Run.{answer, output};
+ghost use Rattle.store.specs.Result.{says};
+ghost use Rattle.calculus.specs.Run.{call, answer, output};
 
 // The refusal of a store sheet, 1 to 5, or 0.
 #[no_mangle]
@@ -53,11 +53,13 @@ pub extern "C" fn muntyzhap_run(
     offset: &mut usize,
     steps: &mut u32,
 ) -> u32
-    ensures { λ r. ⌜ r ≡ answer (now (store .entry)) (now (programme .entry)) rule budget (length (now (out .entry))) .number ⌝ }
-    ensures { λ r. ⌜ now (block .exit) ≡ answer (now (store .entry)) (now (programme .entry)) rule budget (length (now (out .entry))) .block ⌝ }
-    ensures { λ r. ⌜ now (offset .exit) ≡ answer (now (store .entry)) (now (programme .entry)) rule budget (length (now (out .entry))) .offset ⌝ }
-    ensures { λ r. ⌜ now (steps .exit) ≡ answer (now (store .entry)) (now (programme .entry)) rule budget (length (now (out .entry))) .steps ⌝ }
-    ensures { λ r. ⌜ now (out .exit) ≡ output (now (store .entry)) (now (programme .entry)) rule budget (now (out .entry)) ⌝ }
+    ensures { λ r. ⌜
+        says r (now (block .exit)) (now (offset .exit)) (now (steps .exit))
+        ≡ answer (call (now (store .entry)) (now (programme .entry)) rule budget (now (out .entry)))
+        ⌝ }
+    ensures { λ r. ⌜
+        now (out .exit) ≡ output (call (now (store .entry)) (now (programme .entry)) rule budget (now (out .entry))) (now (out .entry))
+        ⌝ }
 {
     let a = runner::run(store, programme, rule, budget, out);
     *block = a.block;

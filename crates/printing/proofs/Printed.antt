@@ -13,10 +13,10 @@ use Rattle.store.specs.Result.{unplaced}
 use Rattle.store.specs.Bytes.{numberAt}
 use Rattle.store.specs.Value.{slotWidth}
 use Rattle.store.specs.Sheet.{mostSlots}
-use Rattle.calculus.specs.Run.{answer, output}
+use Rattle.calculus.specs.Run.{call}
 use Rattle.printing.specs.Decimal.{ascii}
 use Rattle.printing.specs.Lines.{field, answerLine, slotLines, lines}
-use Rattle.printing.specs.Printed.{mostInput, budgetWidth, headWidth, storeLength, slotsOf, lent, printedRun, printedSheets, printedRead, printed}
+use Rattle.printing.specs.Printed.{mostInput, budgetWidth, headWidth, storeLength, slotsOf, lent, callLines, printedRun, printedSheets, printedRead, printed}
 
 take-replicate : (n k : ℕ) → n ≤ k → take {A = ℕ} n (replicate k 0) ≡ replicate n 0
 take-replicate n k h =
@@ -38,8 +38,7 @@ unfolding lent
 length-lent m = length-replicate (slotWidth * m) 0
 
 pub run-lines : (rule budget : ℕ) (store programme old : List ℕ) (slots : ℕ) → slots ≡ slotsOf store → old ≡ lent slots
-    → lines (answer store programme rule budget (length old)) store slots (output store programme rule budget old)
-    ≡ printedRun rule budget store programme
+    → callLines (call store programme rule budget old) slots old ≡ printedRun rule budget store programme
 unfolding printedRun
 run-lines rule budget store programme old slots p q = rw (q, p) refl
 

@@ -8,7 +8,7 @@ use Rattle.store.specs.Result.{unplaced}
 use Rattle.store.specs.Bytes.{numberAt}
 use Rattle.store.specs.Value.{slotWidth}
 use Rattle.store.specs.Sheet.{mostSlots, sizesWidth, nOf, mOf, storeForm, sheetLength}
-use Rattle.calculus.specs.Run.{answer, output}
+use Rattle.calculus.specs.Run.{Call, call, answer, output}
 use Rattle.printing.specs.Lines.{answerLine, lines}
 
 -- "It reads at most 32,768 bytes, more than any good input has."
@@ -35,14 +35,14 @@ slotsOf s = elim (leb (mOf s) mostSlots) [ true ↦ mOf s | false ↦ 0 ]
 unfoldable pub lent : ℕ → List ℕ
 lent m = replicate (slotWidth * m) 0
 
+-- the lines of a call whose output held `old`, with so many slots
+abbrev pub callLines : Call → ℕ → List ℕ → List ℕ
+callLines c slots old = lines (answer c) (c .store) slots (output c old)
+
 -- the lines of a run of both sheets
 unfoldable pub printedRun : ℕ → ℕ → List ℕ → List ℕ → List ℕ
 printedRun rule budget store programme =
-    lines
-    (answer store programme rule budget (length (lent (slotsOf store))))
-    store
-    (slotsOf store)
-    (output store programme rule budget (lent (slotsOf store)))
+    callLines (call store programme rule budget (lent (slotsOf store))) (slotsOf store) (lent (slotsOf store))
 
 -- the bytes after the rule and the budget are both sheets
 unfoldable pub printedSheets : ℕ → ℕ → List ℕ → List ℕ

@@ -3,13 +3,12 @@ ghost use mathlib.Core.Path.{_≡_};
 ghost use Prim.Native.Nat.{_+_, _*_, _≤_, _<_};
 ghost use mathlib.Core.List.{[], _∷_};
 ghost use lib.ListN.{length};
-ghost use Rattle.store.specs.Value.{slotWidth};
 ghost use Rattle.store.specs.Signed.{negative, magnitude};
 ghost use Rattle.store.specs.Sheet.{mostSlots};
-ghost use Rattle.calculus.specs.Run.{answer, output};
+ghost use Rattle.calculus.specs.Run.{call};
 ghost use Rattle.printing.specs.Decimal.{digit, decimalWithin};
 ghost use Rattle.printing.specs.Lines.{field, answerLine, payloadField, slotLine, slotLines, lines};
-ghost use Rattle.printing.specs.Printed.{storeLength, slotsOf, lent, printedRun, printedSheets, printedRead, printed};
+ghost use Rattle.printing.specs.Printed.{storeLength, slotsOf, lent, callLines, printedRun, printedSheets, printedRead, printed};
 ghost use Rattle.printing.specs.Put.{Put, Begins, fieldRoom, answerRoom, slotRoom, textRoom};
 use store::Answer;
 use store::Opened;
@@ -237,10 +236,7 @@ fn print_into(
     requires { ⌜ (slots ≤ mostSlots) × (textRoom ≤ length (now text)) ⌝ }
     ensures { λ r. ⌜
         Put (now (text .entry)) 0
-        (lines
-        (answer (now (store .entry)) (now (programme .entry)) rule budget (length (now (out .entry))))
-        (now (store .entry)) slots
-        (output (now (store .entry)) (now (programme .entry)) rule budget (now (out .entry))))
+        (callLines (call (now (store .entry)) (now (programme .entry)) rule budget (now (out .entry))) slots (now (out .entry)))
         textRoom r (now (text .exit))
         ⌝ }
 {

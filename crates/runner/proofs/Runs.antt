@@ -23,7 +23,7 @@ use Rattle.calculus.specs.Rules.{RuleSet, rulesOf, judgesViews, judgesRegion}
 use Rattle.calculus.specs.Calculus.{Store, State}
 use Rattle.calculus.specs.Blocks.{Halt, haltAnswer, runBlocks, start, mostBudget}
 use Rattle.calculus.proofs.Rules.{rules-refuse}
-use Rattle.calculus.specs.Run.{runProgramme, runOpened, runUnder, run, answerOf, outputOf, answer, output}
+use Rattle.calculus.specs.Run.{Call, call, runProgramme, runOpened, runUnder, run, answerOf, outputOf, answer, output}
 use Rattle.runner.specs.declared.Judges.{Judges}
 use Rattle.runner.specs.declared.Ended.{Ended}
 use Rattle.runner.specs.declared.Ended.the-variants as e
@@ -190,13 +190,13 @@ unfolding verdictOf unplaced
 verdict-refused (ok a) h = absurd (h refl)
 verdict-refused (refuse a) h = refl
 
-module _ (rules : RuleSet) (budget : ℕ) (o : Opening) (p : List ℕ) (old : List ℕ) where
+module _ (rules : RuleSet) (o : Opening) (c : Call) (old : List ℕ) where
   abbrev sheet : Result Answer (List Block)
-  sheet = programmeSheet (o .tables .order .n) (o .tables .slots) p
+  sheet = programmeSheet (o .tables .order .n) (o .tables .slots) (c .programme)
 
   -- what is said of a run over an opened store, and what its output then holds
   abbrev pub OpenedRun : Answer → List ℕ → Type 0
-  OpenedRun r out = (r ≡ answerOf (runOpened rules budget o p (length old))) × (out ≡ outputOf (runOpened rules budget o p (length old)) old)
+  OpenedRun r out = (r ≡ answerOf (runOpened rules o c)) × (out ≡ outputOf (runOpened rules o c) old)
 
   pub programme-refused : (v : Answer) → v ≡ verdictOf sheet → (v .number ≡ 0 → ⊥) → OpenedRun v old
   unfolding runOpened answerOf outputOf _>>=_
@@ -204,14 +204,14 @@ module _ (rules : RuleSet) (budget : ℕ) (o : Opening) (p : List ℕ) (old : Li
       let q : sheet ≡ refuse v = verdict-refused sheet (rw e at z) ∙ ap (λ (a : Answer). refuse a) (sym e) in
       rw q (refl, refl)
 
-  pub room-refused : (bs : List Block) → sheet ≡ ok bs → (length old ≡ slotWidth * o .tables .slots → ⊥) → OpenedRun (unplaced 12) old
+  pub room-refused : (bs : List Block) → sheet ≡ ok bs → (c .room ≡ slotWidth * o .tables .slots → ⊥) → OpenedRun (unplaced 12) old
   unfolding runOpened answerOf outputOf require _>>=_
-  room-refused bs e z = rw (e, ne-eqb (length old) (slotWidth * o .tables .slots) z) (refl, refl)
+  room-refused bs e z = rw (e, ne-eqb (c .room) (slotWidth * o .tables .slots) z) (refl, refl)
 
-  pub programme-run : (bs : List Block) → sheet ≡ ok bs → length old ≡ slotWidth * o .tables .slots → (r : Answer) (out : List ℕ)
-      → r ≡ answerOf (runProgramme rules budget o bs) → out ≡ outputOf (runProgramme rules budget o bs) old → OpenedRun r out
+  pub programme-run : (bs : List Block) → sheet ≡ ok bs → c .room ≡ slotWidth * o .tables .slots → (r : Answer) (out : List ℕ)
+      → r ≡ answerOf (runProgramme rules (c .budget) o bs) → out ≡ outputOf (runProgramme rules (c .budget) o bs) old → OpenedRun r out
   unfolding runOpened require _>>=_
-  programme-run bs e z r out a b = rw (e, eq-eqb (length old) (slotWidth * o .tables .slots) z) (a, b)
+  programme-run bs e z r out a b = rw (e, eq-eqb (c .room) (slotWidth * o .tables .slots) z) (a, b)
 
 -- The same over what the opened store answered
 module _ (p : List ℕ) (t : Opened) (j : Judges) (budget : ℕ) (rows : List (List ℕ)) (v : Answer) (e : v ≡ verdictOf (programmeSheet (t .table .n) (t .slots) p)) where
@@ -233,25 +233,27 @@ module _ (p : List ℕ) (t : Opened) (j : Judges) (budget : ℕ) (rows : List (L
   module _ (old : List ℕ) where
     -- what is said of whatever opening stands behind
     abbrev Opened-run : Answer → List ℕ → Type 0
-    Opened-run r out = (rules : RuleSet) (o : Opening) → OpeningHeld o t rows → j ≡ judgesOf (ok rules) → OpenedRun rules budget o p old r out
+    Opened-run r out =
+        (rules : RuleSet) (o : Opening) (store : List ℕ) (rule : ℕ) → OpeningHeld o t rows → j ≡ judgesOf (ok rules)
+        → OpenedRun rules o (call store p rule budget old) old r out
 
     pub opened-refused : (v .number ≡ 0 → ⊥) → Opened-run v old
-    opened-refused z rules o h d = programme-refused rules budget o p old v (verdict o h) z
+    opened-refused z rules o store rule h d = programme-refused rules o (call store p rule budget old) old v (verdict o h) z
 
     pub opened-room : (r : Answer) → v .number ≡ 0 → (length old ≡ slotWidth * t .slots → ⊥) → r ≡ unplaced 12 → Opened-run r old
-    opened-room r z x q rules o h d =
+    opened-room r z x q rules o store rule h d =
         let b = taken o h z in
-        rw q (room-refused rules budget o p old (b .value) (b .same) (rw (slots o h) at x))
+        rw q (room-refused rules o (call store p rule budget old) old (b .value) (b .same) (rw (slots o h) at x))
 
     pub opened-done : (r : Answer) (out : List ℕ) → v .number ≡ 0 → length old ≡ slotWidth * t .slots
         → ((rules : RuleSet) (o : Opening) (bs : List Block) → OpeningHeld o t rows → j ≡ judgesOf (ok rules) → programmeSheet (o .tables .order .n) (o .tables .slots) p ≡ ok bs
         → length old ≡ slotWidth * o .tables .slots → (r ≡ answerOf (runProgramme rules budget o bs)) × (out ≡ outputOf (runProgramme rules budget o bs) old))
         → Opened-run r out
-    opened-done r out z x f rules o h d =
+    opened-done r out z x f rules o store rule h d =
         let b = taken o h z in
         let room : length old ≡ slotWidth * o .tables .slots = rw (slots o h) at x in
         let y = f rules o (b .value) h d (b .same) room in
-        programme-run rules budget o p old (b .value) (b .same) room r out (y .0) (y .1)
+        programme-run rules o (call store p rule budget old) old (b .value) (b .same) room r out (y .0) (y .1)
 
 -- an opened store has no more slots than its rows
 pub slots-few : (t : Opened) (j : Judges) (budget : ℕ) (rows : List (List ℕ)) → CanStart t j budget rows → t .slots ≤ mostSlots
@@ -308,27 +310,27 @@ rules-known rule j e h = go (rulesOf rule) refl
     go (ok s) q = record { rules = s; same = q; judges = rw q at e }
     go (refuse n) q = absurd (false≢true (sym (ap (λ (y : Judges). y .known) (rw q at e)) ∙ h))
 
-module _ (store p : List ℕ) (rule budget : ℕ) (old : List ℕ) where
+module _ (c : Call) (old : List ℕ) where
   abbrev pub WholeRun : Answer → List ℕ → Type 0
-  WholeRun r out = (r ≡ answer store p rule budget (length old)) × (out ≡ output store p rule budget old)
+  WholeRun r out = (r ≡ answer c) × (out ≡ output c old)
 
-  pub rule-refused : rulesOf rule ≡ refuse 11 → WholeRun (unplaced 11) old
+  pub rule-refused : rulesOf (c .rule) ≡ refuse 11 → WholeRun (unplaced 11) old
   unfolding run answerOf outputOf refusedAs _>>=_
   rule-refused e = rw e (refl, refl)
 
-  module _ (rules : RuleSet) (k : rulesOf rule ≡ ok rules) where
-    pub budget-refused : mostBudget < budget → WholeRun (unplaced 11) old
+  module _ (rules : RuleSet) (k : rulesOf (c .rule) ≡ ok rules) where
+    pub budget-refused : mostBudget < c .budget → WholeRun (unplaced 11) old
     unfolding runUnder run answerOf outputOf refusedAs require _>>=_
-    budget-refused h = rw (k, lt-leb budget mostBudget h) (refl, refl)
+    budget-refused h = rw (k, lt-leb (c .budget) mostBudget h) (refl, refl)
 
-    module _ (h : budget ≤ mostBudget) where
-      pub store-refused : (n : ℕ) → storeSheet store ≡ refuse n → WholeRun (unplaced n) old
+    module _ (h : c .budget ≤ mostBudget) where
+      pub store-refused : (n : ℕ) → storeSheet (c .store) ≡ refuse n → WholeRun (unplaced n) old
       unfolding runUnder run answerOf outputOf refusedAs require _>>=_
-      store-refused n e = rw (k, le-leb budget mostBudget h, e) (refl, refl)
+      store-refused n e = rw (k, le-leb (c .budget) mostBudget h, e) (refl, refl)
 
-      pub opened-run : (o : Opening) → storeSheet store ≡ ok o → (r : Answer) (out : List ℕ) → OpenedRun rules budget o p old r out → WholeRun r out
+      pub opened-run : (o : Opening) → storeSheet (c .store) ≡ ok o → (r : Answer) (out : List ℕ) → OpenedRun rules o c old r out → WholeRun r out
       unfolding runUnder run refusedAs require _>>=_
-      opened-run o e r out q = rw (k, le-leb budget mostBudget h, e) q
+      opened-run o e r out q = rw (k, le-leb (c .budget) mostBudget h, e) q
 
 -- a store sheet's answer
 pub store-no : (r : Result ℕ Opening) (n : ℕ) → n ≡ openedOf r .refusal → (n ≡ 0 → ⊥) → r ≡ refuse n
@@ -350,20 +352,23 @@ store-taken s n e z = go (storeSheet s) refl (store-opens s)
 
 -- The same over what the calls of a run answered
 module _ (store p : List ℕ) (rule budget : ℕ) (old : List ℕ) (j : Judges) (e : j ≡ judgesOf (rulesOf rule)) where
-  pub whole-rule : (r : Answer) → r ≡ unplaced 11 → j .known ≡ false → WholeRun store p rule budget old r old
-  whole-rule r q h = rw q (rule-refused store p rule budget old (rules-unknown rule j e h))
+  abbrev asked : Call
+  asked = call store p rule budget old
+
+  pub whole-rule : (r : Answer) → r ≡ unplaced 11 → j .known ≡ false → WholeRun asked old r old
+  whole-rule r q h = rw q (rule-refused asked old (rules-unknown rule j e h))
 
   module _ (known : j .known ≡ true) where
     k : Known rule j
     k = rules-known rule j e known
 
-    pub whole-budget : (r : Answer) → r ≡ unplaced 11 → mostBudget < budget → WholeRun store p rule budget old r old
-    whole-budget r q h = rw q (budget-refused store p rule budget old (k .rules) (k .same) h)
+    pub whole-budget : (r : Answer) → r ≡ unplaced 11 → mostBudget < budget → WholeRun asked old r old
+    whole-budget r q h = rw q (budget-refused asked old (k .rules) (k .same) h)
 
     module _ (h : budget ≤ mostBudget) (t : Opened) (opened : t ≡ openedOf (storeSheet store)) where
-      pub whole-store : (r : Answer) → r ≡ unplaced (t .refusal) → (t .refusal ≡ 0 → ⊥) → WholeRun store p rule budget old r old
+      pub whole-store : (r : Answer) → r ≡ unplaced (t .refusal) → (t .refusal ≡ 0 → ⊥) → WholeRun asked old r old
       whole-store r q z =
-          rw q (store-refused store p rule budget old (k .rules) (k .same) h (t .refusal) (store-no (storeSheet store) (t .refusal) (ap (λ (x : Opened). x .refusal) opened) z))
+          rw q (store-refused asked old (k .rules) (k .same) h (t .refusal) (store-no (storeSheet store) (t .refusal) (ap (λ (x : Opened). x .refusal) opened) z))
 
       module _ (z : t .refusal ≡ 0) (before rows : List (List ℕ)) (held : rows ≡ heldAfter (storeSheet store) before) where
         s : StoreTaken (storeSheet store)
@@ -376,6 +381,6 @@ module _ (store p : List ℕ) (rule budget : ℕ) (old : List ℕ) (j : Judges) 
         whole-start = record { rules = k .rules; opening = s .opening; held = opening; judges = k .judges; modest = h }
 
         pub whole-done : (r : Answer) (out : List ℕ)
-            → ((rules : RuleSet) (o : Opening) → OpeningHeld o t rows → j ≡ judgesOf (ok rules) → OpenedRun rules budget o p old r out)
-            → WholeRun store p rule budget old r out
-        whole-done r out f = opened-run store p rule budget old (k .rules) (k .same) h (s .opening) (s .same) r out (f (k .rules) (s .opening) opening (k .judges))
+            → ((rules : RuleSet) (o : Opening) (store : List ℕ) (rule : ℕ) → OpeningHeld o t rows → j ≡ judgesOf (ok rules) → OpenedRun rules o (call store p rule budget old) old r out)
+            → WholeRun asked old r out
+        whole-done r out f = opened-run asked old (k .rules) (k .same) h (s .opening) (s .same) r out (f (k .rules) (s .opening) store rule opening (k .judges))

@@ -21,7 +21,7 @@ ghost use Rattle.store.specs.Result.{Result, ok, unplaced};
 ghost use Rattle.programme.specs.Code.{readBlock};
 ghost use Rattle.programme.specs.Sheet.{Block, mostCode, blocksFrom, programmeSheet};
 ghost use Rattle.calculus.specs.Blocks.{Halt, runBlocks, start};
-ghost use Rattle.calculus.specs.Run.{runProgramme, runOpened, answerOf, outputOf, answer, output};
+ghost use Rattle.calculus.specs.Run.{call, runProgramme, runOpened, answerOf, outputOf, answer, output};
 ghost use Rattle.runner.specs.Playing.{judgesOf, Under, CanPlay, Plays, LeftToPlay, PlayedAs, CanPlayAll, CanPlayAt, EndedAs, OpeningHeld, CanStart, CanFinish};
 use lattice::Table;
 use programme::Header;
@@ -946,7 +946,7 @@ fn run_opened(
     out: &mut [u8],
 ) -> Answer
     requires { ⌜ CanStart opened judges budget (now held) ⌝ }
-    ensures { λ r. ⌜ ((rules : RuleSet) (o : Opening) → OpeningHeld o opened (now (held .entry)) → judges ≡ judgesOf (ok rules) → (r ≡ answerOf (runOpened rules budget o (now (programme .entry)) (length (now (out .entry))))) × (now (out .exit) ≡ outputOf (runOpened rules budget o (now (programme .entry)) (length (now (out .entry)))) (now (out .entry)))) ⌝ }
+    ensures { λ r. ⌜ ((rules : RuleSet) (o : Opening) (store : List ℕ) (rule : ℕ) → OpeningHeld o opened (now (held .entry)) → judges ≡ judgesOf (ok rules) → (r ≡ answerOf (runOpened rules o (call store (now (programme .entry)) rule budget (now (out .entry))))) × (now (out .exit) ≡ outputOf (runOpened rules o (call store (now (programme .entry)) rule budget (now (out .entry)))) (now (out .entry)))) ⌝ }
 {
     let slots = opened.slots;
     let table = opened.table;
@@ -964,8 +964,8 @@ fn run_opened(
 // are the definitions', for every input.
 pub fn run(store: &[u8], programme: &[u8], rule: u32, budget: u32, out: &mut [u8]) -> Answer
     ensures { λ r. ⌜
-        (r ≡ answer (now (store .entry)) (now (programme .entry)) rule budget (length (now (out .entry))))
-        × (now (out .exit) ≡ output (now (store .entry)) (now (programme .entry)) rule budget (now (out .entry)))
+        (r ≡ answer (call (now (store .entry)) (now (programme .entry)) rule budget (now (out .entry))))
+        × (now (out .exit) ≡ output (call (now (store .entry)) (now (programme .entry)) rule budget (now (out .entry))) (now (out .entry)))
         ⌝ }
 {
     let judges = judges_of(rule);

@@ -29,6 +29,9 @@ inTurn zero f = ok tt
 inTurn (suc n) f = inTurn n f >>= λ _. f n
 
 -- Document 01, "Who can cause which refusal": "Each answer is number, block, offset, steps." `Answer` is the struct of src/lib.rt.
+abbrev pub says : (number block offset steps : ℕ) → Answer
+says number block offset steps = record { number = number; block = block; offset = offset; steps = steps }
+
 -- "Numbers 1 to 8, 11 and 12 give block, offset and steps 0"
 unfoldable pub unplaced : ℕ → Answer
-unplaced e = record { number = e; block = 0; offset = 0; steps = 0 }
+unplaced e = says e 0 0 0
