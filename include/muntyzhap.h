@@ -122,14 +122,14 @@ extern "C" {
 /* Calls */
 
 /*
- * Judges a store sheet. Answers 0 if it is good, else its refusal, 1 to 5.
+ * Checks a store sheet. Answers 0 if it is good, else its refusal, 1 to 5.
  *
  * sheet, sheet_length: the sheet.
  */
 uint32_t muntyzhap_check_store(const uint8_t *sheet, size_t sheet_length);
 
 /*
- * Judges a table sheet, which is a store sheet that ends after its owners.
+ * Checks a table sheet, which is a store sheet that ends after its owners.
  * Answers 0 if it is good, else its refusal, 1 to 4.
  *
  * sheet, sheet_length: the sheet.
@@ -137,7 +137,7 @@ uint32_t muntyzhap_check_store(const uint8_t *sheet, size_t sheet_length);
 uint32_t muntyzhap_check_table(const uint8_t *sheet, size_t sheet_length);
 
 /*
- * Judges a programme sheet for a store. Answers 0 if it is good, else its
+ * Checks a programme sheet for a store. Answers 0 if it is good, else its
  * refusal, 6 to 10.
  *
  * sheet, sheet_length: the sheet.
@@ -150,7 +150,7 @@ uint32_t muntyzhap_check_programme(const uint8_t *sheet, size_t sheet_length,
                                    size_t *offset);
 
 /*
- * Judges both sheets and the arguments and runs the blocks in order. Answers 0
+ * Checks both sheets and the arguments and runs the blocks in order. Answers 0
  * if they finish, and out is then the end store: the value of each slot, in
  * order. Else it answers the refusal, 1 to 17, and every byte of out stays as
  * it was.

@@ -14,7 +14,7 @@ use Rattle.calculus.specs.Blocks.{Halt}
 use Rattle.calculus.specs.Reduction.{Region, Code, done, Config, ⟨_∣_∣_⟩, _⊢_⇝_, Seq, Seq-2, End, _⊢_⟶_, If, Else, While-1, While-2, Assign, Stage, before, during, _⊩_⟹_, Start, Prg-1, Prg-1-silent, Comp-2}
 use Rattle.calculus.specs.Forbidden.{Task, Tries, Tries-if, Tries-while, Tries-assign, Forbidden, Forbid, Due, Due-17}
 use Rattle.calculus.specs.Exact.{_⊩_⟹*_, here, after, held}
-use Rattle.calculus.proofs.Judging.{one-eval, one-verdict, one-number, not-forbidden}
+use Rattle.calculus.proofs.Judging.{one-eval, one-judged, one-number, not-forbidden}
 
 -- where a run within a budget stands still, and what it comes to
 pub data Rests (ρ : Header → Region) (budget : ℕ) : Stage → Result Halt State → Type 0 where
@@ -34,13 +34,13 @@ one-silent Seq-2 Seq-2 = refl
 one-silent End End = refl
 
 one-counted : {ρ : Region} {C D D′ : Config} → ρ ⊢ C ⟶ D → ρ ⊢ C ⟶ D′ → D ≡ D′
-one-counted (If x) (If y) = rw (one-verdict x y .1)
-one-counted (If x) (Else y) = absurd (true≢false (one-verdict x y .0))
-one-counted (Else x) (If y) = absurd (true≢false (one-verdict y x .0))
-one-counted (Else x) (Else y) = rw (one-verdict x y .1)
-one-counted (While-1 x) (While-1 y) = rw (one-verdict x y .1)
-one-counted (While-1 x) (While-2 y) = absurd (true≢false (one-verdict x y .0))
-one-counted (While-2 x) (While-1 y) = absurd (true≢false (one-verdict y x .0))
+one-counted (If x) (If y) = rw (one-judged x y .1)
+one-counted (If x) (Else y) = absurd (true≢false (one-judged x y .0))
+one-counted (Else x) (If y) = absurd (true≢false (one-judged y x .0))
+one-counted (Else x) (Else y) = rw (one-judged x y .1)
+one-counted (While-1 x) (While-1 y) = rw (one-judged x y .1)
+one-counted (While-1 x) (While-2 y) = absurd (true≢false (one-judged x y .0))
+one-counted (While-2 x) (While-1 y) = absurd (true≢false (one-judged y x .0))
 one-counted (While-2 x) (While-2 y) = refl
 one-counted (Assign p t q a b) (Assign p′ t′ q′ a′ b′) = rw (one-eval p p′, one-eval q q′)
 

@@ -123,8 +123,8 @@ module _ {ρ : Region} {H : Store} where
   pub one-eval : {e : Expr} {v v′ : Value} {l l′ : Label} → ρ ⊢⟨ H ∣ e ⟩⇓ v ^ l → ρ ⊢⟨ H ∣ e ⟩⇓ v′ ^ l′ → v ≡ v′
   one-eval x y = ap (λ (z : Labelled). z .value) (one-value _ _ _ (eval-ok (settingOf ρ) x) (eval-ok (settingOf ρ) y))
 
-  pub one-verdict : {g : Expr} {b b′ : Bool} {l l′ : Label} → ρ ⊢⟨ H ∣ g ⟩⇓if b ^ l → ρ ⊢⟨ H ∣ g ⟩⇓if b′ ^ l′ → (b ≡ b′) × (l ≡ l′)
-  one-verdict x y =
+  pub one-judged : {g : Expr} {b b′ : Bool} {l l′ : Label} → ρ ⊢⟨ H ∣ g ⟩⇓if b ^ l → ρ ⊢⟨ H ∣ g ⟩⇓if b′ ^ l′ → (b ≡ b′) × (l ≡ l′)
+  one-judged x y =
       let e = one-value _ _ _ (judge-ok (settingOf ρ) x) (judge-ok (settingOf ρ) y) in (ap (λ (j : Judged). j .passes) e, ap (λ (j : Judged). j .label) e)
 
   pub one-number : {t : Task} {n n′ : ℕ} → ρ ⊢⟨ H ∣ t ⟩✗ n → ρ ⊢⟨ H ∣ t ⟩✗ n′ → n ≡ n′
@@ -162,8 +162,8 @@ module _ {ρ : Region} {H : Store} where
 
 -- From the functions to the rules, whatever the budget
 
-pub verdict : {ρ : Region} {H : Store} {g : Expr} {b b′ : Bool} {l : Label} → ρ ⊢⟨ H ∣ g ⟩⇓if b ^ l → b ≡ b′ → ρ ⊢⟨ H ∣ g ⟩⇓if b′ ^ l
-verdict (Guard x p q) e = Guard x p (q ∙ e)
+pub judged-as : {ρ : Region} {H : Store} {g : Expr} {b b′ : Bool} {l : Label} → ρ ⊢⟨ H ∣ g ⟩⇓if b ^ l → b ≡ b′ → ρ ⊢⟨ H ∣ g ⟩⇓if b′ ^ l
+judged-as (Guard x p q) e = Guard x p (q ∙ e)
 
 module _ (w : Setting) where
   pub evaluates : (H : Store) (e : Expr) → Post (λ x. regionOf w ⊢⟨ H ∣ e ⟩⇓ x .value ^ x .label) (λ n. regionOf w ⊢⟨ H ∣ e ⟩⇑ n) (eval w H e)

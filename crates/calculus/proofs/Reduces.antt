@@ -22,7 +22,7 @@ use Rattle.calculus.specs.Forbidden.{Task, Tries, Tries-if, Tries-while,
 use Rattle.calculus.specs.Exact.{_⊩_⟹*_, here, after, held}
 use Rattle.calculus.specs.Kept.{outcome, Place, Comes, at-assignment, at-if, at-while, in-first, in-rest, in-then, in-else, in-body, in-later-round}
 use Rattle.calculus.proofs.Steps.{exec-counts, post-choose}
-use Rattle.calculus.proofs.Judging.{verdict, judges, assigns}
+use Rattle.calculus.proofs.Judging.{judged-as, judges, assigns}
 use Rattle.calculus.proofs.Deterministic.{finished, forbidden, out-of-budget, Ends, all-add, deterministic, one-try, meets}
 
 module _ {ρ : Header → Region} where
@@ -114,11 +114,11 @@ module _ (w : Tables) (rules : RuleSet) (budget i : ℕ) (h : Header) (bs : List
           post-bind (λ u. Goes (left s (pc ∷ PC) again) (left u (pc ∷ PC) again) × (s .steps < u .steps) × (s .steps ≤ budget → u .steps ≤ budget)) _ _ _ _
           (post-map _ _ _ _ _
           (post-both _ _ _ _ _
-          (part l (pc ∷ PC) _ _ _ s _ (q .1) (after (Prg-1 (While-1 (verdict (q .0) e))) here) (body l (counted s)))
+          (part l (pc ∷ PC) _ _ _ s _ (q .1) (after (Prg-1 (While-1 (judged-as (q .0) e))) here) (body l (counted s)))
           (within c l (counted s)))
           (λ u x. (x .0 .0, x .0 .1, λ m. x .1 (omega (arith, q .1)))) (λ x y. y .0))
           (λ u x. post-map _ _ _ _ _ (rounds-go n u (omega (arith, x .1))) (λ t y. then-all (x .0) y) (λ x′ y l. go-on (x .0) (y (x .2 l)))))
-          (λ e. post-ok _ _ _ (after (Prg-1 (While-2 (verdict (q .0) e))) here))
+          (λ e. post-ok _ _ _ (after (Prg-1 (While-2 (judged-as (q .0) e))) here))
 
   mutual
     unfolding exec execBody execs counted performed _⨾⨾_
@@ -139,8 +139,8 @@ module _ (w : Tables) (rules : RuleSet) (budget i : ℕ) (h : Header) (bs : List
         post-bind _ _ _ _ _ (tried _ at s _ _ _ _ Tries-if (judges W (s .store) g)) λ j q.
         let l = meet (w .order) pc (j .label) in
         post-choose _ _ _ _ _ _
-        (λ e. branch l (pc ∷ PC) _ k _ s _ (q .1) (after (Prg-1 (If (verdict (q .0) e))) here) (exec-goes c l (counted s) (pc ∷ PC) (end⨾ k)))
-        (λ e. branch l (pc ∷ PC) _ k _ s _ (q .1) (after (Prg-1 (Else (verdict (q .0) e))) here) (exec-goes d l (counted s) (pc ∷ PC) (end⨾ k)))
+        (λ e. branch l (pc ∷ PC) _ k _ s _ (q .1) (after (Prg-1 (If (judged-as (q .0) e))) here) (exec-goes c l (counted s) (pc ∷ PC) (end⨾ k)))
+        (λ e. branch l (pc ∷ PC) _ k _ s _ (q .1) (after (Prg-1 (Else (judged-as (q .0) e))) here) (exec-goes d l (counted s) (pc ∷ PC) (end⨾ k)))
     body-goes (while g c) at end pc s PC k =
         rounds-go g c at end pc PC k (λ l t. exec-goes c l t (pc ∷ PC) (end⨾ cmd at end (while g c) ⨾ k)) (budget - s .steps) s (omega arith)
 
@@ -161,7 +161,7 @@ module _ (w : Tables) (rules : RuleSet) (budget i : ℕ) (h : Header) (bs : List
   onwards g x = (x .0, x .1, then-all g (x .2), x .3)
 
   judged : {H : Store} {g : Expr} {j : Judged} {b : Bool} → judge W H g ≡ ok j → j .passes ≡ b → regions w rules h ⊢⟨ H ∣ g ⟩⇓if b ^ j .label
-  judged q e = verdict (post-at _ _ _ _ (judges W _ _) q) e
+  judged q e = judged-as (post-at _ _ _ _ (judges W _ _) q) e
 
   pub comes-goes : {c : Cmd} {l : Label} {s : State} {p : Place} → Comes W c l s p
       → (PC : List Label) (k : Code) → LeadsTo (left s (l ∷ PC) (c ⨾ k)) p
@@ -202,10 +202,10 @@ module _ (w : Tables) (rules : RuleSet) (budget i : ℕ) (h : Header) (bs : List
   unfolding outcome counted performed
   outcome-goes s (Tries-if {g = g}) =
       post-bind _ _ _ _ _ (judges W (s .store) g) λ j q.
-      post-ok _ _ _ (cases (j .passes) (λ e. (_, Prg-1 (If (verdict q e)), refl)) (λ e. (_, Prg-1 (Else (verdict q e)), refl)))
+      post-ok _ _ _ (cases (j .passes) (λ e. (_, Prg-1 (If (judged-as q e)), refl)) (λ e. (_, Prg-1 (Else (judged-as q e)), refl)))
   outcome-goes s (Tries-while {g = g}) =
       post-bind _ _ _ _ _ (judges W (s .store) g) λ j q.
-      post-ok _ _ _ (cases (j .passes) (λ e. (_, Prg-1 (While-1 (verdict q e)), refl)) (λ e. (_, Prg-1 (While-2 (verdict q e)), refl)))
+      post-ok _ _ _ (cases (j .passes) (λ e. (_, Prg-1 (While-1 (judged-as q e)), refl)) (λ e. (_, Prg-1 (While-2 (judged-as q e)), refl)))
   outcome-goes s (Tries-assign {pc = pc} {PC = PC} {at = at} {to = end} {x = x} {y = y} {k = k}) =
       post-bind _ _ _ _ _ (assigns W (s .store) pc PC at end x y k) λ z q. post-ok _ _ _ (_, Prg-1 q, refl)
 

@@ -2,7 +2,7 @@
 ghost use mathlib.Core.Path.{_≡_};
 ghost use Rattle.store.specs.Sheet.{storeSheet, tableSheet};
 ghost use Rattle.store.specs.Held.{refusalOf};
-ghost use Rattle.programme.specs.Sheet.{programmeSheet, verdictOf};
+ghost use Rattle.programme.specs.Sheet.{programmeSheet, checkAnswer};
 ghost use Rattle.store.specs.Result.{says};
 ghost use Rattle.calculus.specs.Run.{call, answer, output};
 
@@ -31,9 +31,9 @@ pub extern "C" fn muntyzhap_check_programme(
     block: &mut usize,
     offset: &mut usize,
 ) -> u32
-    ensures { λ r. ⌜ r ≡ verdictOf (programmeSheet n slots (now (sheet .entry))) .number ⌝ }
-    ensures { λ r. ⌜ now (block .exit) ≡ verdictOf (programmeSheet n slots (now (sheet .entry))) .block ⌝ }
-    ensures { λ r. ⌜ now (offset .exit) ≡ verdictOf (programmeSheet n slots (now (sheet .entry))) .offset ⌝ }
+    ensures { λ r. ⌜ r ≡ checkAnswer (programmeSheet n slots (now (sheet .entry))) .number ⌝ }
+    ensures { λ r. ⌜ now (block .exit) ≡ checkAnswer (programmeSheet n slots (now (sheet .entry))) .block ⌝ }
+    ensures { λ r. ⌜ now (offset .exit) ≡ checkAnswer (programmeSheet n slots (now (sheet .entry))) .offset ⌝ }
 {
     let a = programme::check_programme(sheet, n, slots);
     *block = a.block;

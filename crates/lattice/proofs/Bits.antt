@@ -1,11 +1,11 @@
 -- The bits of a mask. Assumes nothing.
-use Prim.Native.Nat.{ℕ, zero, suc, _+_, _-_, _*_, _/_, _%_, _^_, _<_, min}
+use Prim.Native.Nat.{ℕ, zero, suc, _+_, _-_, _*_, _/_, _%_, _^_, _≤_, _<_, min}
 use mathlib.Core.Path.{_≡_, refl, sym, ap, _∙_}
-use mathlib.Core.Bool.{true}
-use native.Mathlib.Nat.{le-of-suc-le-suc, not-suc-le-zero, div-lt-iff-lt-mul, pow-suc, lt-of-le-of-lt, div-one, min-le-left}
+use mathlib.Core.Bool.{true, false}
+use native.Mathlib.Nat.{le-of-suc-le-suc, not-suc-le-zero, div-lt-iff-lt-mul, div-eq-of-lt, pow-suc, lt-of-le-of-lt, lt-of-lt-of-le, div-one, min-le-left}
 use native.Mathlib.Omega.{arith}
 use lib.Arith.{digits-mod, digits-div, lt-one, dbl-pred}
-use lib.Pow.{shr-shr, pow-pos}
+use lib.Pow.{shr-shr, pow-pos, pow-mono}
 use lib.Bits.{bitAnd, and-step, and-shr}
 use lib.Dec.{eqb}
 use Rattle.lattice.specs.Tests.{_and_}
@@ -69,6 +69,11 @@ same-bits (suc n) a b ha hb h =
 
 ones-suc : (n : ℕ) → 2 ^ suc n - 1 ≡ (2 ^ n - 1) * 2 + 1
 ones-suc n = ap (λ (x : ℕ). x - 1) (pow-suc 2 n) ∙ dbl-pred (pow-pos n)
+
+-- a number of n bits has no bit from the n-th on
+pub bit-past : (n a j : ℕ) → a < 2 ^ n → n ≤ j → bit a j ≡ false
+unfolding bit
+bit-past n a j h l = ap (λ (x : ℕ). eqb (x % 2) 1) (div-eq-of-lt (lt-of-lt-of-le h (pow-mono l)))
 
 -- all n low bits of 2 ^ n - 1 are set
 pub bit-ones : (n j : ℕ) → j < n → bit (2 ^ n - 1) j ≡ true

@@ -7,25 +7,30 @@ ghost use Rattle.lattice.specs.Masks.{hasMask, pairOk, meetOk, rowOk, ro
 // An order table: n principals, numbered from 0, and a mask for each. Masks from n on are 0.
 pub struct Table {
     pub n: usize,
-    pub masks: [u32; 32],
+    pub masks: Masks,
 }
+
+// A mask for each principal that a table may have.
+pub type Masks = [u32; Table::MOST];
 
 impl Table {
     // The most principals that a table may have.
     pub const MOST: usize = 32;
 }
 
-// Bit j of m.
-fn has_bit(m: u32, j: usize) -> bool
-    requires { ⌜ j < 32 ⌝ }
+// Bit j of m: whether principal j stands at or below whatever has the mask m. A mask has no bit past the last principal's.
+pub fn has_bit(m: u32, j: usize) -> bool
     ensures { λ r. ⌜ r ≡ bit m j ⌝ }
 {
-    (m >> j) % 2 == 1
+    if j < Table::MOST {
+        (m >> j) % 2 == 1
+    } else {
+        false
+    }
 }
 
 // Where j stands below i: all below j stands below i, and i does not stand below j, unless it is j.
 fn pair_ok(mi: u32, mj: u32, i: usize, j: usize) -> bool
-    requires { ⌜ (i < 32) × (j < 32) ⌝ }
     ensures { λ r. ⌜ r ≡ pairOk mi mj i j ⌝ }
 {
     if !has_bit(mi, j) {
@@ -41,8 +46,8 @@ fn pair_ok(mi: u32, mj: u32, i: usize, j: usize) -> bool
 }
 
 // Some principal has the mask m.
-fn has_mask(masks: &[u32; 32], n: usize, m: u32) -> bool
-    requires { ⌜ n ≤ 32 ⌝ }
+fn has_mask(masks: &Masks, n: usize, m: u32) -> bool
+    requires { ⌜ n ≤ mostPrincipals ⌝ }
     ensures { λ r. ⌜ r ≡ hasMask (now (masks .entry)) n m ⌝ }
 {
     let mut k = 0;
@@ -56,8 +61,8 @@ fn has_mask(masks: &[u32; 32], n: usize, m: u32) -> bool
 }
 
 // The test of one pair, with its meet: the principal whose mask is the conjunction of theirs.
-fn meet_ok(masks: &[u32; 32], n: usize, i: usize, j: usize) -> bool
-    requires { ⌜ (n ≤ 32) × (i < n) × (j < n) ⌝ }
+fn meet_ok(masks: &Masks, n: usize, i: usize, j: usize) -> bool
+    requires { ⌜ (n ≤ mostPrincipals) × (i < n) × (j < n) ⌝ }
     ensures { λ r. ⌜ r ≡ meetOk (now (masks .entry)) n i j ⌝ }
 {
     let mi = masks[i];
@@ -69,8 +74,8 @@ fn meet_ok(masks: &[u32; 32], n: usize, i: usize, j: usize) -> bool
     }
 }
 
-fn row_ok(masks: &[u32; 32], n: usize, i: usize) -> bool
-    requires { ⌜ (n ≤ 32) × (i < n) ⌝ }
+fn row_ok(masks: &Masks, n: usize, i: usize) -> bool
+    requires { ⌜ (n ≤ mostPrincipals) × (i < n) ⌝ }
     ensures { λ r. ⌜ r ≡ rowOk (now (masks .entry)) n i ⌝ }
 {
     let mut j = 0;
@@ -85,15 +90,15 @@ fn row_ok(masks: &[u32; 32], n: usize, i: usize) -> bool
 
 // The n low bits.
 fn ones(n: usize) -> u32
-    requires { ⌜ n ≤ 32 ⌝ }
+    requires { ⌜ n ≤ mostPrincipals ⌝ }
     ensures { λ r. ⌜ r ≡ 2 ^ n - 1 ⌝ }
 {
     ((1u64 << n) - 1) as u32
 }
 
 // Principal i's own line: no bit n or higher, itself, and its row.
-fn line_ok(masks: &[u32; 32], n: usize, i: usize) -> bool
-    requires { ⌜ (n ≤ 32) × (i < n) ⌝ }
+fn line_ok(masks: &Masks, n: usize, i: usize) -> bool
+    requires { ⌜ (n ≤ mostPrincipals) × (i < n) ⌝ }
     ensures { λ r. ⌜ r ≡ lineOk (now (masks .entry)) n i ⌝ }
 {
     let m = masks[i];
@@ -106,8 +111,8 @@ fn line_ok(masks: &[u32; 32], n: usize, i: usize) -> bool
     row_ok(masks, n, i)
 }
 
-fn rows_ok(masks: &[u32; 32], n: usize) -> bool
-    requires { ⌜ n ≤ 32 ⌝ }
+fn rows_ok(masks: &Masks, n: usize) -> bool
+    requires { ⌜ n ≤ mostPrincipals ⌝ }
     ensures { λ r. ⌜ r ≡ rowsOk (now (masks .entry)) n ⌝ }
 {
     let mut i = 0;
@@ -120,8 +125,8 @@ fn rows_ok(masks: &[u32; 32], n: usize) -> bool
     true
 }
 
-fn masks_ok(masks: &[u32; 32], n: usize) -> bool
-    requires { ⌜ n ≤ 32 ⌝ }
+fn masks_ok(masks: &Masks, n: usize) -> bool
+    requires { ⌜ n ≤ mostPrincipals ⌝ }
     ensures { λ r. ⌜ r ≡ tableOk (now (masks .entry)) n ⌝ }
 {
     if rows_ok(masks, n) {
@@ -131,7 +136,7 @@ fn masks_ok(masks: &[u32; 32], n: usize) -> bool
     }
 }
 
-// Whether the order table is good. One of more than 32 principals is not: it has no mask for them.
+// Whether the order table is good. One of more principals than it may have is not: it has no mask for them.
 pub fn table_good(t: Table) -> bool
     ensures { λ r. ⌜ r ≡ good t ⌝ }
 {

@@ -14,12 +14,12 @@ use Rattle.calculus.specs.Calculus.{inRegion, admit, fetch, eval, judge, author
 use Rattle.calculus.specs.Blocks.{haltAnswer, runBlocks, start}
 use Rattle.calculus.specs.Run.{runProgramme, runOpened, runUnder, run, answerOf, outputOf}
 use Rattle.printing.specs.Decimal.{decimalWithin}
-use Rattle.printing.specs.Lines.{field, answerLine, payloadField, slotLine, slotLines, lines}
+use Rattle.printing.specs.Lines.{field, answerFields, answerLine, payloadField, slotLine, slotLines, lines}
 use Rattle.printing.specs.Printed.{storeLength, slotsOf, lent, printedRun, printedSheets, printedRead, printed}
 use Rattle.printing.specs.Examples.{inputs, values, InputsHold, ValuesHold}
 
 pub inputs-hold : InputsHold
-unfolding inputs decimalWithin field answerLine payloadField slotLine slotLines lines negative magnitude
+unfolding inputs decimalWithin field answerFields answerLine payloadField slotLine slotLines lines negative magnitude
     storeLength slotsOf lent printedRun printedSheets printedRead printed
     runProgramme runOpened runUnder run answerOf outputOf
     _and_ _or_ _implies_ every some find bit inRange reflexive antisymmetric transitive isMeet hasMeets isTop hasTop good meet top

@@ -13,23 +13,22 @@ use Rattle.store.specs.Value.{slotWidth, valueAt}
 use Rattle.store.specs.Signed.{negative, magnitude}
 use Rattle.store.specs.Sheet.{ownerAt}
 use Rattle.printing.specs.Decimal.{ascii}
-use Rattle.printing.specs.Lines.{field, lineEnd, answerLine, payloadField, slotLine, slotLines, lines}
-use Rattle.printing.specs.Put.{Put, fieldRoom, answerRoom, slotRoom}
+use Rattle.printing.specs.Lines.{field, lineEnd, answerFields, answerLine, payloadField, slotLine, slotLines, lines}
+use Rattle.printing.specs.Put.{Put, fieldRoom, fieldsRoom, answerRoom, slotRoom}
 use Rattle.printing.proofs.Put.{put-none, put-then, put-as}
 
--- four fields and a line's end
-module _ {t t₁ t₂ t₃ t₄ t₅ : List ℕ} {at e₁ e₂ e₃ e₄ e₅ : ℕ} where
-  pub answer-puts : (a : Answer)
+-- four fields; and, of a slot's line, its end
+module _ {t t₁ t₂ t₃ t₄ : List ℕ} {at e₁ e₂ e₃ e₄ : ℕ} where
+  pub fields-put : (a : Answer)
       → Put t at (field (ascii "end ") (a .number)) (fieldRoom 4) e₁ t₁
       → Put t₁ e₁ (field (ascii " block ") (a .block)) (fieldRoom 7) e₂ t₂
       → Put t₂ e₂ (field (ascii " at ") (a .offset)) (fieldRoom 4) e₃ t₃
       → Put t₃ e₃ (field (ascii " steps ") (a .steps)) (fieldRoom 7) e₄ t₄
-      → Put t₄ e₄ lineEnd 1 e₅ t₅
-      → Put t at (answerLine a) answerRoom e₅ t₅
-  unfolding answerLine
-  answer-puts a p q r s l = put-then (put-then (put-then (put-then p q) r) s) l
+      → Put t at (answerFields a) fieldsRoom e₄ t₄
+  unfolding answerFields
+  fields-put a p q r s = put-then (put-then (put-then p q) r) s
 
-  pub slot-puts : (slot owner : ℕ) (v : Value)
+  pub slot-puts : {t₅ : List ℕ} {e₅ : ℕ} (slot owner : ℕ) (v : Value)
       → Put t at (field [] slot) (fieldRoom 0) e₁ t₁
       → Put t₁ e₁ (field (ascii " ") owner) (fieldRoom 1) e₂ t₂
       → Put t₂ e₂ (field (ascii " ") (v .kind)) (fieldRoom 1) e₃ t₃
@@ -38,6 +37,11 @@ module _ {t t₁ t₂ t₃ t₄ t₅ : List ℕ} {at e₁ e₂ e₃ e₄ e₅ : 
       → Put t at (slotLine slot owner v) slotRoom e₅ t₅
   unfolding slotLine
   slot-puts slot owner v p q r s l = put-then (put-then (put-then (put-then p q) r) s) l
+
+pub answer-put : {t t₁ t₂ : List ℕ} {at e₁ e₂ : ℕ} (a : Answer)
+    → Put t at (answerFields a) fieldsRoom e₁ t₁ → Put t₁ e₁ lineEnd 1 e₂ t₂ → Put t at (answerLine a) answerRoom e₂ t₂
+unfolding answerLine
+answer-put a p l = put-then p l
 
 module _ (v : Value) where
   pub with-sign : negative v ≡ true → field (ascii " -") (magnitude v) ≡ payloadField v

@@ -15,7 +15,7 @@ use Rattle.store.specs.Value.{slotWidth}
 use Rattle.store.specs.Sheet.{mostSlots}
 use Rattle.calculus.specs.Run.{call}
 use Rattle.printing.specs.Decimal.{ascii}
-use Rattle.printing.specs.Lines.{field, answerLine, slotLines, lines}
+use Rattle.printing.specs.Lines.{field, answerFields, answerLine, slotLines, lines}
 use Rattle.printing.specs.Printed.{mostInput, budgetWidth, headWidth, storeLength, slotsOf, lent, callLines, printedRun, printedSheets, printedRead, printed}
 
 take-replicate : (n k : ℕ) → n ≤ k → take {A = ℕ} n (replicate k 0) ≡ replicate n 0
@@ -72,7 +72,7 @@ bytes-read s = ap printedRead (take-take mostInput mostInput s (omega arith))
 
 -- The first word
 starts-lines : (a : Answer) (sheet : List ℕ) (m : ℕ) (out : List ℕ) → take 4 (lines a sheet m out) ≡ ascii "end "
-unfolding lines answerLine field
+unfolding lines answerLine answerFields field
 starts-lines a sheet m out = either (eqb (a .number) 0)
   where
     either : (b : Bool)
@@ -81,7 +81,7 @@ starts-lines a sheet m out = either (eqb (a .number) 0)
     either false = refl
 
 pub first-word : (s : List ℕ) → take 4 (printed s) ≡ ascii "end "
-unfolding printed printedRead printedSheets printedRun answerLine field
+unfolding printed printedRead printedSheets printedRun answerLine answerFields field
 first-word s = either (ltb (length (take mostInput s)) headWidth)
   where
     either : (b : Bool)

@@ -19,13 +19,15 @@ abbrev pub lineEnd : List ℕ
 lineEnd = ascii "\n"
 
 -- "The first line always starts with the word `end`": "Line 1: number, block, offset, steps."
-unfoldable pub answerLine : Answer → List ℕ
-answerLine a =
+unfoldable pub answerFields : Answer → List ℕ
+answerFields a =
     field (ascii "end ") (a .number)
     ++ field (ascii " block ") (a .block)
     ++ field (ascii " at ") (a .offset)
     ++ field (ascii " steps ") (a .steps)
-    ++ lineEnd
+
+unfoldable pub answerLine : Answer → List ℕ
+answerLine a = answerFields a ++ lineEnd
 
 -- "the payload is one number, with a minus sign if it is a negative integer"
 unfoldable pub payloadField : Value → List ℕ

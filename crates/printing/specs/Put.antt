@@ -19,12 +19,15 @@ pub record Begins (old bytes : List ℕ) (size : ℕ) (new : List ℕ) : Type 0 
   pub holds : new ≡ bytes ++ drop size old
   pub fits : size ≤ length new
 
--- the most bytes of a field, after a word of so many bytes; of line 1; of a slot's line; of a text
+-- the most bytes of a field, after a word of so many bytes; of line 1's fields; of line 1; of a slot's line; of a text
 abbrev pub fieldRoom : ℕ → ℕ
 fieldRoom word = word + mostPlaces
 
+abbrev pub fieldsRoom : ℕ
+fieldsRoom = fieldRoom 4 + fieldRoom 7 + fieldRoom 4 + fieldRoom 7
+
 abbrev pub answerRoom : ℕ
-answerRoom = fieldRoom 4 + fieldRoom 7 + fieldRoom 4 + fieldRoom 7 + 1
+answerRoom = fieldsRoom + 1
 
 abbrev pub slotRoom : ℕ
 slotRoom = fieldRoom 0 + fieldRoom 1 + fieldRoom 1 + fieldRoom 2 + 1

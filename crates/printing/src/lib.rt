@@ -7,9 +7,9 @@ ghost use Rattle.store.specs.Signed.{negative, magnitude};
 ghost use Rattle.store.specs.Sheet.{mostSlots};
 ghost use Rattle.calculus.specs.Run.{call};
 ghost use Rattle.printing.specs.Decimal.{digit, decimalWithin};
-ghost use Rattle.printing.specs.Lines.{field, answerLine, payloadField, slotLine, slotLines, lines};
+ghost use Rattle.printing.specs.Lines.{field, answerFields, answerLine, payloadField, slotLine, slotLines, lines};
 ghost use Rattle.printing.specs.Printed.{storeLength, slotsOf, lent, callLines, printedRun, printedSheets, printedRead, printed};
-ghost use Rattle.printing.specs.Put.{Put, Begins, fieldRoom, answerRoom, slotRoom, textRoom};
+ghost use Rattle.printing.specs.Put.{Put, Begins, fieldRoom, fieldsRoom, answerRoom, slotRoom, textRoom};
 use store::Answer;
 use store::Opened;
 use store::Value;
@@ -35,18 +35,14 @@ pub struct Text {
 impl Text {
     // The most digits of a number.
     pub const PLACES: usize = 20;
-    // The most bytes of line 1: "end ", " block ", " at ", " steps ", the line's end, and four numbers.
-    pub const ANSWER: usize = 4 + 7 + 4 + 7 + 1 + 4 * Text::PLACES;
+    // The most bytes of line 1 before its end: "end ", " block ", " at ", " steps ", and four numbers; and with it.
+    pub const FIELDS: usize = 4 + 7 + 4 + 7 + 4 * Text::PLACES;
+
+    pub const ANSWER: usize = Text::FIELDS + 1;
     // The most bytes of a slot's line: two spaces, a space and a sign, the line's end, and four numbers.
     pub const SLOT: usize = 1 + 1 + 2 + 1 + 4 * Text::PLACES;
 
     pub const MOST: usize = Text::ANSWER + Text::SLOT * Opened::MOST_SLOTS;
-}
-
-fn wide(x: u8) -> u64
-    ensures { λ r. ⌜ r ≡ x ⌝ }
-{
-    x as u64
 }
 
 // Each function that puts something into the text puts it at `at`, and answers where it ends.
@@ -93,10 +89,10 @@ fn put_field(text: &mut [u8], at: usize, word: &[u8], n: u64) -> usize
     put_digits(text, end, Text::PLACES, n)
 }
 
-// Line 1.
-fn put_answer(text: &mut [u8], a: Answer) -> usize
-    requires { ⌜ answerRoom ≤ length (now text) ⌝ }
-    ensures { λ r. ⌜ Put (now (text .entry)) 0 (answerLine a) answerRoom r (now (text .exit)) ⌝ }
+// Line 1, but for its end.
+fn put_fields(text: &mut [u8], a: Answer) -> usize
+    requires { ⌜ fieldsRoom ≤ length (now text) ⌝ }
+    ensures { λ r. ⌜ Put (now (text .entry)) 0 (answerFields a) fieldsRoom r (now (text .exit)) ⌝ }
 {
     let number = a.number as u64;
     let block = a.block as u64;
@@ -105,8 +101,23 @@ fn put_answer(text: &mut [u8], a: Answer) -> usize
     let end = put_field(text, 0, b"end ", number);
     let end = put_field(text, end, b" block ", block);
     let end = put_field(text, end, b" at ", offset);
-    let end = put_field(text, end, b" steps ", steps);
+    put_field(text, end, b" steps ", steps)
+}
+
+// Line 1.
+fn put_answer(text: &mut [u8], a: Answer) -> usize
+    requires { ⌜ answerRoom ≤ length (now text) ⌝ }
+    ensures { λ r. ⌜ Put (now (text .entry)) 0 (answerLine a) answerRoom r (now (text .exit)) ⌝ }
+{
+    let end = put_fields(text, a);
     put_bytes(text, end, b"\n")
+}
+
+// What line 1 says of an answer, without its end: how many bytes at the start of the text are all of it.
+pub fn print_answer(a: Answer, text: &mut [u8; Text::FIELDS]) -> usize
+    ensures { λ r. ⌜ Begins (now (text .entry)) (answerFields a) r (now (text .exit)) ⌝ }
+{
+    put_fields(text, a)
 }
 
 // Whether a value is printed with a minus sign.
@@ -151,7 +162,7 @@ fn put_slot(text: &mut [u8], at: usize, slot: u64, owner: u64, v: Value) -> usiz
     requires { ⌜ at + slotRoom ≤ length (now text) ⌝ }
     ensures { λ r. ⌜ Put (now (text .entry)) at (slotLine slot owner v) slotRoom r (now (text .exit)) ⌝ }
 {
-    let kind = wide(v.kind);
+    let kind = store::wide(v.kind);
     let end = put_field(text, at, b"", slot);
     let end = put_field(text, end, b" ", owner);
     let end = put_field(text, end, b" ", kind);
@@ -188,7 +199,7 @@ fn put_lines(text: &mut [u8], a: Answer, sheet: &[u8], slots: usize, out: &[u8])
 {
     let number = a.number;
     let end = put_answer(text, a);
-    if number != 0 {
+    if number != Answer::FINISHED {
         return end;
     }
     put_slots(text, end, sheet, out, slots)
@@ -281,13 +292,7 @@ fn print_read(text: &mut [u8], read: &[u8]) -> usize
     ensures { λ r. ⌜ Put (now (text .entry)) 0 (printedRead (now (read .entry))) textRoom r (now (text .exit)) ⌝ }
 {
     if read.len() < Input::HEAD {
-        let a = Answer {
-            number: 1,
-            block: 0,
-            offset: 0,
-            steps: 0,
-        };
-        return put_answer(text, a);
+        return put_answer(text, store::unplaced(Answer::STORE_LENGTH));
     }
     let rule = read[0] as u32;
     let budget = store::number_at(read, 1, Input::BUDGET) as u32;

@@ -73,7 +73,7 @@ blocksFrom m p zero i = ok []
 blocksFrom m p (suc n) i = blockAt m p i >>= λ b. blocksFrom m p n (i + 1) >>= λ bs. ok (b ∷ bs)
 
 -- "programme sizes (6, 7), length (6); 8 in block order; length sum (6); 9 or 10 in byte order"
--- The tables that it is judged against give n principals and m slots.
+-- The tables that it is checked against give n principals and m slots.
 unfoldable pub programmeSheet : ℕ → ℕ → List ℕ → Result Answer (List Block)
 programmeSheet n m p =
     require (leb sizesWidth (length p)) (unplaced 6) (
@@ -83,7 +83,7 @@ programmeSheet n m p =
     require (eqb (startOf p (kOf p)) (cOf p)) (unplaced 6) (
     blocksFrom m p (kOf p) 0)))))
 
--- what judging a programme sheet answers: number 0 where it is taken in
-unfoldable pub verdictOf : {A : Type 0} → Result Answer A → Answer
-verdictOf (ok a) = unplaced 0
-verdictOf (refuse e) = e
+-- what checking a programme sheet, or a part of it, answers: number 0 where it is taken in
+unfoldable pub checkAnswer : {A : Type 0} → Result Answer A → Answer
+checkAnswer (ok a) = unplaced 0
+checkAnswer (refuse e) = e

@@ -3,10 +3,9 @@ ghost use mathlib.Core.Path.{_≡_};
 ghost use Prim.Native.Nat.{_<_, _≤_};
 ghost use lib.ListN.{length};
 ghost use Rattle.lattice.specs.Tests.{every};
-ghost use Rattle.store.specs.Result.{unplaced};
 ghost use Rattle.programme.specs.Syntax.{marks, marksBody};
 ghost use Rattle.programme.specs.Code.{readValue, readExpr, readCmd, readBody, readAssign, readSeq, readIf, readWhile};
-ghost use Rattle.programme.specs.Sheet.{headerOf, headerAt, headerGood, lengthAt, blockAt, blocksFrom, programmeSheet, verdictOf, mostBlocks, mostCode, codeAt};
+ghost use Rattle.programme.specs.Sheet.{headerOf, headerAt, headerGood, lengthAt, blockAt, blocksFrom, programmeSheet, checkAnswer, mostBlocks, mostCode, codeAt};
 ghost use Rattle.programme.specs.Reading.{Answers, Reads, blockRead, blockReading, BlockMarked, GoodLengths, Stands};
 ghost use Rattle.programme.specs.Starts.{RunningStart};
 use store::Answer;
@@ -48,11 +47,6 @@ pub enum Reading {
 }
 
 impl Reading {
-    pub const OUTSIDE_LIMIT: u32 = 7;
-
-    pub const ILL_FORMED: u32 = 9;
-
-    pub const TOO_DEEP: u32 = 10;
     // How deep commands may nest, the block's own command being depth 1.
     pub const MOST_DEEP: usize = 32;
     // How many bytes 11 may stand in a row.
@@ -66,20 +60,20 @@ fn read_value(code: &[u8], slots: usize, at: usize) -> Reading
     let size = code.len();
     if size <= at {
         return Reading::Refused {
-            number: Reading::ILL_FORMED,
+            number: Answer::ILL_FORMED_CODE,
             at: size,
         };
     }
     let kind = code[at];
     if Value::KINDS <= kind {
         return Reading::Refused {
-            number: Reading::ILL_FORMED,
+            number: Answer::ILL_FORMED_CODE,
             at,
         };
     }
     if size - at < Value::WIDTH {
         return Reading::Refused {
-            number: Reading::ILL_FORMED,
+            number: Answer::ILL_FORMED_CODE,
             at: size,
         };
     }
@@ -88,7 +82,7 @@ fn read_value(code: &[u8], slots: usize, at: usize) -> Reading
         Reading::End(at + Value::WIDTH)
     } else {
         Reading::Refused {
-            number: Reading::ILL_FORMED,
+            number: Answer::ILL_FORMED_CODE,
             at,
         }
     }
@@ -108,13 +102,13 @@ fn read_expr(code: &[u8], slots: usize, at: usize, deep: usize) -> Reading
                 return read_value(code, slots, here + 1);
             }
             return Reading::Refused {
-                number: Reading::ILL_FORMED,
+                number: Answer::ILL_FORMED_CODE,
                 at: here,
             };
         }
         if left == 0 {
             return Reading::Refused {
-                number: Reading::TOO_DEEP,
+                number: Answer::NESTED_TOO_DEEP,
                 at: here,
             };
         }
@@ -122,7 +116,7 @@ fn read_expr(code: &[u8], slots: usize, at: usize, deep: usize) -> Reading
         here += 1;
     }
     Reading::Refused {
-        number: Reading::ILL_FORMED,
+        number: Answer::ILL_FORMED_CODE,
         at: size,
     }
 }
@@ -146,7 +140,7 @@ fn read_cmd(code: &[u8], slots: usize, ends: &mut [u16; 16384], at: usize, deep:
     let size = code.len();
     if size <= at {
         return Reading::Refused {
-            number: Reading::ILL_FORMED,
+            number: Answer::ILL_FORMED_CODE,
             at: size,
         };
     }
@@ -166,7 +160,7 @@ fn read_body(code: &[u8], slots: usize, ends: &mut [u16; 16384], at: usize, deep
 {
     let first = code[at];
     let too_deep = Reading::Refused {
-        number: Reading::TOO_DEEP,
+        number: Answer::NESTED_TOO_DEEP,
         at,
     };
     match first {
@@ -206,7 +200,7 @@ fn read_body(code: &[u8], slots: usize, ends: &mut [u16; 16384], at: usize, deep
             }
         }
         _ => Reading::Refused {
-            number: Reading::ILL_FORMED,
+            number: Answer::ILL_FORMED_CODE,
             at,
         },
     }
@@ -221,14 +215,14 @@ fn read_seq(code: &[u8], slots: usize, ends: &mut [u16; 16384], at: usize, deep:
     let place = at + 1;
     if size <= place {
         return Reading::Refused {
-            number: Reading::ILL_FORMED,
+            number: Answer::ILL_FORMED_CODE,
             at: size,
         };
     }
     let count = code[place];
     if count < 2 {
         return Reading::Refused {
-            number: Reading::ILL_FORMED,
+            number: Answer::ILL_FORMED_CODE,
             at: place,
         };
     }
@@ -282,7 +276,7 @@ pub fn read_block(code: &[u8], slots: usize, ends: &mut [u16; 16384]) -> Reading
 {
     if Sizes::MOST_CODE < code.len() {
         return Reading::Refused {
-            number: Reading::OUTSIDE_LIMIT,
+            number: Answer::PROGRAMME_LIMITS,
             at: 0,
         };
     }
@@ -292,7 +286,7 @@ pub fn read_block(code: &[u8], slots: usize, ends: &mut [u16; 16384]) -> Reading
                 Reading::End(end)
             } else {
                 Reading::Refused {
-                    number: Reading::ILL_FORMED,
+                    number: Answer::ILL_FORMED_CODE,
                     at: end,
                 }
             }
@@ -361,11 +355,11 @@ fn block_checked(
     next: usize,
 ) -> Answer
     requires { ⌜ Stands (now sheet) k i start next ⌝ }
-    ensures { λ r. ⌜ r ≡ verdictOf (blockAt slots (now (sheet .entry)) i) ⌝ }
+    ensures { λ r. ⌜ r ≡ checkAnswer (blockAt slots (now (sheet .entry)) i) ⌝ }
 {
     let code = Sizes::WIDTH + Sizes::ENTRIES * k;
     match read_block(&sheet[code + start..code + next], slots, ends) {
-        Reading::End(_) => refused(0),
+        Reading::End(_) => store::unplaced(Answer::FINISHED),
         Reading::Refused { number, at } => Answer {
             number,
             block: i,
@@ -378,63 +372,52 @@ fn block_checked(
 // Reads every block in turn. Before each, `start` is the running start; each block's length is read and added once.
 fn blocks_checked(sheet: &[u8], k: usize, slots: usize, ends: &mut [u16; 16384]) -> Answer
     requires { ⌜ GoodLengths (now sheet) k ⌝ }
-    ensures { λ r. ⌜ r ≡ verdictOf (blocksFrom slots (now (sheet .entry)) k 0) ⌝ }
+    ensures { λ r. ⌜ r ≡ checkAnswer (blocksFrom slots (now (sheet .entry)) k 0) ⌝ }
 {
     let mut start = 0;
     let mut i = 0;
     while i < k {
         let next = start + length_at(sheet, i as u8);
         let answer = block_checked(sheet, k, slots, ends, i, start, next);
-        if answer.number != 0 {
+        if answer.number != Answer::FINISHED {
             return answer;
         }
         start = next;
         i += 1;
     }
-    refused(0)
+    store::unplaced(Answer::FINISHED)
 }
 
-fn refused(number: u32) -> Answer
-    ensures { λ r. ⌜ r ≡ unplaced number ⌝ }
-{
-    Answer {
-        number,
-        block: 0,
-        offset: 0,
-        steps: 0,
-    }
-}
-
-// Judges a programme sheet with a side table for scratch.
+// Checks a programme sheet with a side table for scratch.
 fn sheet_checked(sheet: &[u8], n: usize, slots: usize, ends: &mut [u16; 16384]) -> Answer
-    ensures { λ r. ⌜ r ≡ verdictOf (programmeSheet n slots (now (sheet .entry))) ⌝ }
+    ensures { λ r. ⌜ r ≡ checkAnswer (programmeSheet n slots (now (sheet .entry))) ⌝ }
 {
     if sheet.len() < Sizes::WIDTH {
-        return refused(6);
+        return store::unplaced(Answer::PROGRAMME_LENGTH);
     }
     let k = store::number_at(sheet, 0, 1) as usize;
     let c = store::number_at(sheet, 1, 2) as usize;
     if Sizes::MOST_BLOCKS < k {
-        return refused(7);
+        return store::unplaced(Answer::PROGRAMME_LIMITS);
     }
     if Sizes::MOST_CODE < c {
-        return refused(7);
+        return store::unplaced(Answer::PROGRAMME_LIMITS);
     }
     if sheet.len() != Sizes::WIDTH + Sizes::ENTRIES * k + c {
-        return refused(6);
+        return store::unplaced(Answer::PROGRAMME_LENGTH);
     }
     if !headers_good(sheet, k, n) {
-        return refused(8);
+        return store::unplaced(Answer::REGION);
     }
     if lengths_sum(sheet, k) != c {
-        return refused(6);
+        return store::unplaced(Answer::PROGRAMME_LENGTH);
     }
     blocks_checked(sheet, k, slots, ends)
 }
 
-// Judges a programme sheet against n principals and `slots` slots: 6 to 10 with its place, or number 0.
+// Checks a programme sheet against n principals and `slots` slots: 6 to 10 with its place, or number 0.
 pub fn check_programme(sheet: &[u8], n: usize, slots: usize) -> Answer
-    ensures { λ r. ⌜ r ≡ verdictOf (programmeSheet n slots (now (sheet .entry))) ⌝ }
+    ensures { λ r. ⌜ r ≡ checkAnswer (programmeSheet n slots (now (sheet .entry))) ⌝ }
 {
     let mut ends = [0u16; 16384];
     sheet_checked(sheet, n, slots, &mut ends)

@@ -18,7 +18,7 @@ use Rattle.store.proofs.Result.{Post, Refuses, post-at, Positive}
 use Rattle.store.proofs.Fill.{table-at}
 use Rattle.store.proofs.Bytes.{formed-more}
 use Rattle.store.proofs.Opening.{Opens, store-opens}
-use Rattle.programme.specs.Sheet.{Block, kOf, blocksFrom, programmeSheet, verdictOf}
+use Rattle.programme.specs.Sheet.{Block, kOf, blocksFrom, programmeSheet, checkAnswer}
 use Rattle.calculus.specs.Rules.{RuleSet, rulesOf, judgesViews, judgesRegion}
 use Rattle.calculus.specs.Calculus.{Store, State}
 use Rattle.calculus.specs.Blocks.{Halt, haltAnswer, runBlocks, start, mostBudget}
@@ -177,16 +177,16 @@ pub record Taken {A : Type 0} (r : Result Answer A) : Type 0 where
   pub value : A
   pub same : r ≡ ok value
 
-verdict-taken : {A : Type 0} (r : Result Answer A) → Refuses (λ (a : Answer). Positive (a .number)) r → verdictOf r .number ≡ 0 → Taken r
-unfolding verdictOf Post
+verdict-taken : {A : Type 0} (r : Result Answer A) → Refuses (λ (a : Answer). Positive (a .number)) r → checkAnswer r .number ≡ 0 → Taken r
+unfolding checkAnswer Post
 verdict-taken (ok a) h e = record { value = a; same = refl }
 verdict-taken (refuse a) h e = absurd (omega arith)
 
-pub programme-taken : (n m : ℕ) (p : List ℕ) (v : Answer) → v ≡ verdictOf (programmeSheet n m p) → v .number ≡ 0 → Taken (programmeSheet n m p)
+pub programme-taken : (n m : ℕ) (p : List ℕ) (v : Answer) → v ≡ checkAnswer (programmeSheet n m p) → v .number ≡ 0 → Taken (programmeSheet n m p)
 programme-taken n m p v e z = verdict-taken (programmeSheet n m p) (programme-refuses n m p) (rw e at z)
 
-verdict-refused : {A : Type 0} (r : Result Answer A) → (verdictOf r .number ≡ 0 → ⊥) → r ≡ refuse (verdictOf r)
-unfolding verdictOf unplaced
+verdict-refused : {A : Type 0} (r : Result Answer A) → (checkAnswer r .number ≡ 0 → ⊥) → r ≡ refuse (checkAnswer r)
+unfolding checkAnswer unplaced
 verdict-refused (ok a) h = absurd (h refl)
 verdict-refused (refuse a) h = refl
 
@@ -198,7 +198,7 @@ module _ (rules : RuleSet) (o : Opening) (c : Call) (old : List ℕ) where
   abbrev pub OpenedRun : Answer → List ℕ → Type 0
   OpenedRun r out = (r ≡ answerOf (runOpened rules o c)) × (out ≡ outputOf (runOpened rules o c) old)
 
-  pub programme-refused : (v : Answer) → v ≡ verdictOf sheet → (v .number ≡ 0 → ⊥) → OpenedRun v old
+  pub programme-refused : (v : Answer) → v ≡ checkAnswer sheet → (v .number ≡ 0 → ⊥) → OpenedRun v old
   unfolding runOpened answerOf outputOf _>>=_
   programme-refused v e z =
       let q : sheet ≡ refuse v = verdict-refused sheet (rw e at z) ∙ ap (λ (a : Answer). refuse a) (sym e) in
@@ -214,13 +214,13 @@ module _ (rules : RuleSet) (o : Opening) (c : Call) (old : List ℕ) where
   programme-run bs e z r out a b = rw (e, eq-eqb (c .room) (slotWidth * o .tables .slots) z) (a, b)
 
 -- The same over what the opened store answered
-module _ (p : List ℕ) (t : Opened) (j : Judges) (budget : ℕ) (rows : List (List ℕ)) (v : Answer) (e : v ≡ verdictOf (programmeSheet (t .table .n) (t .slots) p)) where
+module _ (p : List ℕ) (t : Opened) (j : Judges) (budget : ℕ) (rows : List (List ℕ)) (v : Answer) (e : v ≡ checkAnswer (programmeSheet (t .table .n) (t .slots) p)) where
   module _ (o : Opening) (h : OpeningHeld o t rows) where
     slots : t .slots ≡ o .tables .slots
     unfolding openedOf
     slots = ap (λ (z : Opened). z .slots) (h .opened)
 
-    verdict : v ≡ verdictOf (programmeSheet (o .tables .order .n) (o .tables .slots) p)
+    verdict : v ≡ checkAnswer (programmeSheet (o .tables .order .n) (o .tables .slots) p)
     unfolding openedOf
     verdict = rw (h .opened) at e
 

@@ -17,7 +17,7 @@ ghost use Rattle.runner.specs.Layout.{ExprAt, ExprIn, ExprTo, TwoExprs, 
 ghost use Rattle.runner.specs.Held.{LabelHeld, Serves, StoreHeld, ValueHeld, EvaluatedAs, JudgedAs, MadeAs, CanJudge, unspent};
 ghost use Rattle.runner.specs.Answers.{Got, got, Ruling, ruling, Making, making, Control, control};
 ghost use Rattle.runner.specs.Moves.{labelIn, StateHeld, RanAs, Entered, Left, CanEnter, CanGoOn, CanRun};
-ghost use Rattle.store.specs.Result.{Result, ok, unplaced};
+ghost use Rattle.store.specs.Result.{Result, ok};
 ghost use Rattle.programme.specs.Code.{readBlock};
 ghost use Rattle.programme.specs.Sheet.{Block, mostCode, blocksFrom, programmeSheet};
 ghost use Rattle.calculus.specs.Blocks.{Halt, runBlocks, start};
@@ -886,17 +886,6 @@ fn run_blocks(
     Ended::Finished(steps)
 }
 
-fn refused(number: u32) -> Answer
-    ensures { λ r. ⌜ r ≡ unplaced number ⌝ }
-{
-    Answer {
-        number,
-        block: 0,
-        offset: 0,
-        steps: 0,
-    }
-}
-
 // Plays the blocks of a programme that was taken in, and writes the end store; a halt leaves the output as it was.
 fn finish(
     programme: &[u8],
@@ -955,7 +944,7 @@ fn run_opened(
         return checked;
     }
     if out.len() != Opened::SLOT_WIDTH * slots {
-        return refused(12);
+        return store::unplaced(12);
     }
     finish(programme, opened, judges, budget, held, out)
 }
@@ -971,16 +960,16 @@ pub fn run(store: &[u8], programme: &[u8], rule: u32, budget: u32, out: &mut [u8
     let judges = judges_of(rule);
     let known = judges.known;
     if !known {
-        return refused(11);
+        return store::unplaced(11);
     }
     if Judges::MOST_BUDGET < budget {
-        return refused(11);
+        return store::unplaced(11);
     }
     let mut held: [[u64; 3]; 256] = [[0, 0, 0]; 256];
     let opened = store::open_store(store, &mut held);
     let refusal = opened.refusal;
     if refusal != 0 {
-        return refused(refusal);
+        return store::unplaced(refusal);
     }
     run_opened(programme, opened, judges, budget, &mut held, out)
 }

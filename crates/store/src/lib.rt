@@ -1,12 +1,12 @@
 // Values, slots, the store sheet and the table sheet. Definitions in specs/, laws in proofs/.
 ghost use mathlib.Core.Path.{_≡_};
-ghost use Prim.Native.Nat.{_<_, _≤_, _+_, _*_, min};
+ghost use Prim.Native.Nat.{ℕ, _<_, _≤_, _+_, _*_, min};
 ghost use lib.ListN.{length, getD};
 ghost use lib.Seq.{sets};
 ghost use Rattle.store.specs.Bytes.{numberAt, numberBytes};
-ghost use Rattle.store.specs.Value.{valueWidth, valueAt, wellFormed, slotWidth};
+ghost use Rattle.store.specs.Value.{valueWidth, isWriteView, viewed, valueAt, wellFormed, slotWidth};
 ghost use Rattle.lattice.specs.Order.{mostPrincipals};
-ghost use Rattle.store.specs.Result.{inTurn};
+ghost use Rattle.store.specs.Result.{inTurn, unplaced};
 ghost use Rattle.store.specs.Sheet.{formOf, nOf, sizesAllowed, orderOf, slotChecked, bodyChecked, sheetChecked, storeSheet, tableSheet, tablesOf, openingOf};
 ghost use Rattle.store.specs.Held.{Sized, refusalOf, rowAt, heldOf, openedOf, heldAfter, rowBytes, roomChecked, outAfter};
 use lattice::Table;
@@ -17,6 +17,57 @@ pub struct Answer {
     pub block: usize,
     pub offset: usize,
     pub steps: u32,
+}
+
+impl Answer {
+    // Number 0, and the numbers of refusals: of the store sheet,
+    pub const FINISHED: u32 = 0;
+
+    pub const STORE_LENGTH: u32 = 1;
+
+    pub const STORE_LIMITS: u32 = 2;
+
+    pub const ORDER_TABLE: u32 = 3;
+
+    pub const OWNER: u32 = 4;
+
+    pub const VALUE: u32 = 5;
+    // of the programme sheet,
+    pub const PROGRAMME_LENGTH: u32 = 6;
+
+    pub const PROGRAMME_LIMITS: u32 = 7;
+
+    pub const REGION: u32 = 8;
+
+    pub const ILL_FORMED_CODE: u32 = 9;
+
+    pub const NESTED_TOO_DEEP: u32 = 10;
+    // of the other arguments,
+    pub const ARGUMENTS: u32 = 11;
+
+    pub const OUTPUT_LENGTH: u32 = 12;
+    // and of a step.
+    pub const WRONG_KIND: u32 = 13;
+
+    pub const NO_AUTHORITY: u32 = 14;
+
+    pub const WRITE_VIEW_NOT_ALLOWED: u32 = 15;
+
+    pub const PROVENANCE_TOO_LOW: u32 = 16;
+
+    pub const BUDGET_SPENT: u32 = 17;
+}
+
+// A refusal without a place.
+pub fn unplaced(number: u32) -> Answer
+    ensures { λ r. ⌜ r ≡ unplaced number ⌝ }
+{
+    Answer {
+        number,
+        block: 0,
+        offset: 0,
+        steps: 0,
+    }
 }
 
 pub struct Value {
@@ -62,9 +113,24 @@ impl Opened {
     pub const SIZES: usize = 3;
     // The bytes of a mask.
     pub const MASK: usize = 4;
+    // The numbers of a row, and where each stands.
+    pub const ROW: usize = 3;
+
+    pub const ROW_KIND: usize = 0;
+
+    pub const ROW_PAYLOAD: usize = 1;
+
+    pub const ROW_OWNER: usize = 2;
 }
 
-fn wide(x: u8) -> u64
+// A slot as the code holds it.
+pub type Row = [u64; Opened::ROW];
+
+// A store as the code holds it: a row for each slot that there may be.
+pub type Held = [Row; Opened::MOST_SLOTS];
+
+// A byte as a number.
+pub fn wide(x: u8) -> u64
     ensures { λ r. ⌜ r ≡ x ⌝ }
 {
     x as u64
@@ -145,6 +211,20 @@ pub fn value_at(s: &[u8], at: usize) -> Value
     Value { kind, payload }
 }
 
+// Whether a value of this kind is a write view.
+pub fn is_write_view(kind: u64) -> bool
+    ensures { λ r. ⌜ ((payload : ℕ) → r ≡ isWriteView (record { kind = kind; payload = payload })) ⌝ }
+{
+    kind == Value::WRITE_VIEW as u64
+}
+
+// The slot that a view with this payload names.
+pub fn viewed(payload: u64) -> u64
+    ensures { λ r. ⌜ ((kind : ℕ) → r ≡ viewed (record { kind = kind; payload = payload })) ⌝ }
+{
+    payload
+}
+
 // Whether the kind is known, and lets the payload be what it is among `slots` slots.
 pub fn well_formed(v: Value, slots: usize) -> bool
     ensures { λ r. ⌜ r ≡ wellFormed slots v ⌝ }
@@ -158,10 +238,10 @@ pub fn well_formed(v: Value, slots: usize) -> bool
         return payload < 2;
     }
     if kind == Value::READ_VIEW {
-        return payload < slots as u64;
+        return viewed(payload) < slots as u64;
     }
-    if kind == Value::WRITE_VIEW {
-        return payload < slots as u64;
+    if is_write_view(wide(kind)) {
+        return viewed(payload) < slots as u64;
     }
     false
 }
@@ -174,12 +254,12 @@ fn slot_checked(s: &[u8], values: bool, n: usize, m: usize, i: usize) -> u32
     let owners = Opened::SIZES + Opened::MASK * n;
     let owner = byte_at(s, owners, i);
     if n as u64 <= owner {
-        return 4;
+        return Answer::OWNER;
     }
     if values {
         let v = value_at(s, owners + m + Value::WIDTH * i);
         if !well_formed(v, m) {
-            return 5;
+            return Answer::VALUE;
         }
     }
     0
@@ -206,7 +286,7 @@ fn order_of(s: &[u8], n: usize) -> Table
     requires { ⌜ (n ≡ nOf (now s)) × (n ≤ mostPrincipals) ⌝ }
     ensures { λ r. ⌜ r ≡ orderOf (now (s .entry)) ⌝ }
 {
-    let mut masks = [0u32; 32];
+    let mut masks = [0u32; Table::MOST];
     let mut i = 0;
     while i < n {
         masks[i] = number_at(s, Opened::SIZES + Opened::MASK * i, Opened::MASK) as u32;
@@ -227,18 +307,18 @@ fn sizes_allowed(n: usize, m: usize) -> bool
     m <= Opened::MOST_SLOTS
 }
 
-// Judges what follows the sizes: the length (1), the order table (3), the slots (4, 5).
+// Checks what follows the sizes: the length (1), the order table (3), the slots (4, 5).
 fn body_checked(s: &[u8], values: bool, n: usize, m: usize) -> u32
     requires { ⌜ Sized (now s) n m ⌝ }
     ensures { λ r. ⌜ r ≡ refusalOf (bodyChecked (formOf values) (now (s .entry))) ⌝ }
 {
     let each = if values { Value::WIDTH } else { 0 };
     if s.len() != Opened::SIZES + Opened::MASK * n + m + each * m {
-        return 1;
+        return Answer::STORE_LENGTH;
     }
     let table = order_of(s, n);
     if !lattice::table_good(table) {
-        return 3;
+        return Answer::ORDER_TABLE;
     }
     slots_checked(s, values, n, m)
 }
@@ -248,12 +328,12 @@ fn sheet_checked(s: &[u8], values: bool) -> u32
     ensures { λ r. ⌜ r ≡ refusalOf (sheetChecked (formOf values) (now (s .entry))) ⌝ }
 {
     if s.len() < Opened::SIZES {
-        return 1;
+        return Answer::STORE_LENGTH;
     }
     let n = number_at(s, 0, 1) as usize;
     let m = number_at(s, 1, 2) as usize;
     if !sizes_allowed(n, m) {
-        return 2;
+        return Answer::STORE_LIMITS;
     }
     body_checked(s, values, n, m)
 }
@@ -273,7 +353,7 @@ pub fn check_table(sheet: &[u8]) -> u32
 }
 
 // Slot i of a sheet as a row: kind, payload, owner.
-fn row_at(s: &[u8], n: usize, m: usize, i: usize) -> [u64; 3]
+fn row_at(s: &[u8], n: usize, m: usize, i: usize) -> Row
     requires { ⌜ Sized (now s) n m × (i < m) ⌝ }
     ensures { λ r. ⌜ r ≡ rowAt (now (s .entry)) i ⌝ }
 {
@@ -284,11 +364,11 @@ fn row_at(s: &[u8], n: usize, m: usize, i: usize) -> [u64; 3]
 }
 
 // Fills the held store: 256 equal rows, the integer 0, and then the sheet's own.
-fn fill_held(s: &[u8], n: usize, m: usize, held: &mut [[u64; 3]; 256])
+fn fill_held(s: &[u8], n: usize, m: usize, held: &mut Held)
     requires { ⌜ Sized (now s) n m ⌝ }
     ensures { λ r. ⌜ now (held .exit) ≡ heldOf (tablesOf (now (s .entry))) (openingOf (now (s .entry)) .store) ⌝ }
 {
-    *held = [[0, 0, 0]; 256];
+    *held = [[0; Opened::ROW]; Opened::MOST_SLOTS];
     let mut i = 0;
     while i < m {
         held[i] = row_at(s, n, m, i);
@@ -296,8 +376,8 @@ fn fill_held(s: &[u8], n: usize, m: usize, held: &mut [[u64; 3]; 256])
     }
 }
 
-// Judges a store sheet, and opens it. A refusal leaves the held store as it was.
-pub fn open_store(sheet: &[u8], held: &mut [[u64; 3]; 256]) -> Opened
+// Checks a store sheet, and opens it. A refusal leaves the held store as it was.
+pub fn open_store(sheet: &[u8], held: &mut Held) -> Opened
     ensures { λ r. ⌜
         (r ≡ openedOf (storeSheet (now (sheet .entry))))
         × (now (held .exit) ≡ heldAfter (storeSheet (now (sheet .entry))) (now (held .entry)))
@@ -307,7 +387,7 @@ pub fn open_store(sheet: &[u8], held: &mut [[u64; 3]; 256]) -> Opened
     if refusal != 0 {
         let table = Table {
             n: 0,
-            masks: [0u32; 32],
+            masks: [0u32; Table::MOST],
         };
         return Opened {
             refusal,
@@ -341,26 +421,26 @@ fn put_number(out: &mut [u8], at: usize, width: usize, x: u64)
 }
 
 // Writes a row's slot at `at`.
-fn put_row(out: &mut [u8], at: usize, row: [u64; 3])
+fn put_row(out: &mut [u8], at: usize, row: Row)
     requires { ⌜ at + slotWidth ≤ length (now out) ⌝ }
     ensures { λ r. ⌜ now (out .exit) ≡ sets (now (out .entry)) at (rowBytes row) ⌝ }
 {
-    out[at] = (row[0] % 256) as u8;
-    put_number(out, at + 1, Value::PAYLOAD, row[1]);
+    out[at] = (row[Opened::ROW_KIND] % 256) as u8;
+    put_number(out, at + 1, Value::PAYLOAD, row[Opened::ROW_PAYLOAD]);
 }
 
 // Writes the first m rows of a held store. Refused by 12 where the output is not of their length: it is then left as it was.
-pub fn write_store(held: &[[u64; 3]; 256], m: usize, out: &mut [u8]) -> u32
+pub fn write_store(held: &Held, m: usize, out: &mut [u8]) -> u32
     ensures { λ r. ⌜
         (r ≡ refusalOf (roomChecked m (length (now (out .entry)))))
         × (now (out .exit) ≡ outAfter (roomChecked m (length (now (out .entry)))) (now (held .entry)) m (now (out .entry)))
         ⌝ }
 {
     if Opened::MOST_SLOTS < m {
-        return 12;
+        return Answer::OUTPUT_LENGTH;
     }
     if out.len() != Opened::SLOT_WIDTH * m {
-        return 12;
+        return Answer::OUTPUT_LENGTH;
     }
     let mut i = 0;
     while i < m {

@@ -3,9 +3,10 @@
 // says so, and nothing more of it is read. Its last line is the number of cases, where all were played.
 ghost use mathlib.Core.Path.{_≡_};
 ghost use mathlib.Core.Bool.{true, false};
-ghost use Prim.Native.Nat.{_+_, _≤_};
+ghost use Prim.Native.Nat.{_+_};
 ghost use lib.ListN.{length};
 ghost use Rattle.vectors.specs.Cases.{headOf, marked, mostOutput, mostBody, Fits};
+use printing::Text;
 use store::Answer;
 use store::Opened;
 
@@ -43,21 +44,12 @@ fn stop(word: &[u8], case: u64) -> bool
     false
 }
 
-// " NUMBER" with the word before it.
-fn print_field(word: &[u8], n: u64) {
-    io::write_all(1, word);
-    io::print_decimal(1, n);
-}
-
+// The answer as the printing program says it, after the case's name.
 fn print_answer(a: Answer) {
-    let number = a.number as u64;
-    let block = a.block as u64;
-    let offset = a.offset as u64;
-    let steps = a.steps as u64;
-    print_field(b": end ", number);
-    print_field(b" block ", block);
-    print_field(b" at ", offset);
-    print_field(b" steps ", steps);
+    let mut text = [0u8; Text::FIELDS];
+    let end = printing::print_answer(a, &mut text);
+    io::write_all(1, b": ");
+    io::write_all(1, &text[..end]);
 }
 
 // The bytes of an end store, a space before each slot.
@@ -82,7 +74,7 @@ fn room() -> [u8; Head::MOST_OUTPUT]
 // A finished run's output; of a refused one, whether it still holds what it held when it was lent.
 fn print_output(number: u32, out: &[u8], before: &[u8]) {
     io::write_all(1, b" output");
-    if number == 0 {
+    if number == Answer::FINISHED {
         if out.len() == 0 {
             io::write_all(1, b" empty");
         }
@@ -244,6 +236,7 @@ fn main() {
         stop(b"bytes left over after case ", count);
         return;
     }
-    print_field(b"cases played: ", count);
+    io::write_all(1, b"cases played: ");
+    io::print_decimal(1, count);
     io::write_all(1, b"\n");
 }

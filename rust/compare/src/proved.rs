@@ -6,7 +6,7 @@ use crate::answers::Answer;
 
 pub use muntyzhap::raw::{check_store, check_table};
 
-/// The verdict on a programme sheet, for so many principals and slots.
+/// What checking a programme sheet answers, for so many principals and slots.
 pub fn check_programme(sheet: &[u8], principals: usize, slots: usize) -> Answer {
     raw::check_programme(sheet, principals, slots).into()
 }

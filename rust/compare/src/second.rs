@@ -4,7 +4,7 @@ use crate::answers::Answer;
 use crate::sheets::plain_store;
 use crate::values::Value;
 
-/// The verdict on a programme sheet, for so many principals and slots. A run
+/// What checking a programme sheet answers, for so many principals and slots. A run
 /// over a good store comes to it: with an output of the right length and no
 /// budget, what is left to be answered is 6 to 10, or else the programme is
 /// good and its run finishes (0) or is spent (17).

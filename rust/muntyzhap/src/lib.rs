@@ -75,24 +75,24 @@ pub struct Finished {
     pub steps: u32,
 }
 
-/// Judges a store sheet: refused by 1 to 5.
+/// Checks a store sheet: refused by 1 to 5.
 pub fn check_store(sheet: &[u8]) -> Result<(), Refusal> {
     judged(raw::Answer::only(raw::check_store(sheet)))
 }
 
-/// Judges a table sheet, a store sheet that ends after its owners: refused by
+/// Checks a table sheet, a store sheet that ends after its owners: refused by
 /// 1 to 4.
 pub fn check_table(sheet: &[u8]) -> Result<(), Refusal> {
     judged(raw::Answer::only(raw::check_table(sheet)))
 }
 
-/// Judges a programme sheet for a store of so many principals and slots:
+/// Checks a programme sheet for a store of so many principals and slots:
 /// refused by 6 to 10.
 pub fn check_programme(sheet: &[u8], principals: usize, slots: usize) -> Result<(), Refusal> {
     judged(raw::check_programme(sheet, principals, slots))
 }
 
-/// Judges both sheets and the arguments, runs the blocks in order and, if they
+/// Checks both sheets and the arguments, runs the blocks in order and, if they
 /// finish, writes the end store to `out`, which has [`sheet::output_bytes`] of
 /// the store sheet. A refusal leaves every byte of `out` as it was.
 pub fn run(

@@ -1,13 +1,17 @@
+use mathlib.Core.Path.{ap, _∙_}
 use borrow.Author.Needs.{needs}
 use native.Mathlib.Omega.{arith}
+use Rattle.printing.specs.Lines.{answerLine}
 use Rattle.printing.specs.Printed.{headWidth}
 use Rattle.printing.specs.Put.{textRoom}
 use Rattle.printing.proofs.Put.{put-as}
-use Rattle.store.specs.Result.{unplaced}
 use Rattle.store.proofs.Numbers.{number-lt}
 use Rattle.printing.proofs.Printed.{from-there, no-head, with-head}
 use Rattle.printing.proofs.print_read.Statement.{statement}
 use Rattle.printing.proofs.print_read.Tie as tie
+
+unplaced-requires : tie.Need-unplaced-requires
+unplaced-requires c κs = search needs
 
 put-answer-requires : tie.Need-put-answer-requires
 put-answer-requires c κs = search needs
@@ -16,8 +20,9 @@ same-length : tie.Need-same-length
 same-length c = search needs
 
 returns : tie.Need-returns
-unfolding unplaced
-returns c = put-as textRoom (no-head _ (c .before .before .before .before .if1 .taken)) (omega arith) (c .before .before .put-answer .ensures)
+returns c =
+    let d = c .before .before .before in
+    put-as textRoom (ap answerLine (d .unplaced .ensures) ∙ no-head _ (d .before .before .if1 .taken)) (omega arith) (c .before .before .put-answer .ensures)
 
 shared-slice-read-rule : tie.Need-shared-slice-read-rule
 shared-slice-read-rule c = search needs
@@ -55,6 +60,7 @@ pub print-read-spec : {M : Type 1} → statement M
 print-read-spec =
     tie.close
     (tie.spec
+    unplaced-requires
     put-answer-requires
     same-length
     returns

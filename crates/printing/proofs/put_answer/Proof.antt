@@ -1,37 +1,10 @@
 use borrow.Author.Needs.{needs}
-use Rattle.printing.proofs.Lines.{answer-puts}
+use Rattle.printing.proofs.Lines.{answer-put}
 use Rattle.printing.proofs.put_answer.Statement.{statement}
 use Rattle.printing.proofs.put_answer.Tie as tie
 
-cast-number : tie.Need-cast-number
-cast-number c = search needs
-
-cast-steps : tie.Need-cast-steps
-cast-steps c = search needs
-
-slice-aggregate-put-field : tie.Need-slice-aggregate-put-field
-slice-aggregate-put-field c = search needs
-
-put-field-requires : tie.Need-put-field-requires
-put-field-requires c κs = search needs
-
-slice-aggregate-put-field-2 : tie.Need-slice-aggregate-put-field-2
-slice-aggregate-put-field-2 c = search needs
-
-put-field-requires-2 : tie.Need-put-field-requires-2
-put-field-requires-2 c κs = search needs
-
-slice-aggregate-put-field-3 : tie.Need-slice-aggregate-put-field-3
-slice-aggregate-put-field-3 c = search needs
-
-put-field-requires-3 : tie.Need-put-field-requires-3
-put-field-requires-3 c κs = search needs
-
-slice-aggregate-put-field-4 : tie.Need-slice-aggregate-put-field-4
-slice-aggregate-put-field-4 c = search needs
-
-put-field-requires-4 : tie.Need-put-field-requires-4
-put-field-requires-4 c κs = search needs
+put-fields-requires : tie.Need-put-fields-requires
+put-fields-requires c κs = search needs
 
 slice-aggregate-put-bytes : tie.Need-slice-aggregate-put-bytes
 slice-aggregate-put-bytes c = search needs
@@ -43,30 +16,9 @@ same-length : tie.Need-same-length
 same-length c = search needs
 
 returns : tie.Need-returns
-returns c =
-    answer-puts
-    (c .before .before .before .before .before .before .before .before .before .before .before .before .before .before .before .before .before .before .before .before .before .before .before .before .before .before .before .before .args .a)
-    (c .before .before .before .before .before .before .before .before .before .before .before .before .before .before .before .before .before .before .before .before .before .before .put-field .ensures)
-    (c .before .before .before .before .before .before .before .before .before .before .before .before .before .before .before .before .before .put-field2 .ensures)
-    (c .before .before .before .before .before .before .before .before .before .before .before .before .put-field3 .ensures)
-    (c .before .before .before .before .before .before .before .put-field4 .ensures)
-    (c .before .before .put-bytes .ensures)
+returns c = answer-put (c .before .before .before .before .before .before .before .before .before .before .args .a) (c .before .before .before .before .before .before .before .put-fields .ensures) (c .before .before .put-bytes .ensures)
 
 pub put-answer-spec : {M : Type 1} → statement M
 put-answer-spec =
     tie.close
-    (tie.spec
-    cast-number
-    cast-steps
-    slice-aggregate-put-field
-    put-field-requires
-    slice-aggregate-put-field-2
-    put-field-requires-2
-    slice-aggregate-put-field-3
-    put-field-requires-3
-    slice-aggregate-put-field-4
-    put-field-requires-4
-    slice-aggregate-put-bytes
-    put-bytes-requires
-    same-length
-    returns)
+    (tie.spec put-fields-requires slice-aggregate-put-bytes put-bytes-requires same-length returns)

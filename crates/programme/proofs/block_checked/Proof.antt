@@ -33,8 +33,8 @@ read-block-requires c κs = search needs
 enum-told : tie.Need-enum-told
 enum-told c = search needs
 
-refused-requires : tie.Need-refused-requires
-refused-requires c κs = search needs
+unplaced-requires : tie.Need-unplaced-requires
+unplaced-requires c κs = search needs
 
 enum-known-number : tie.Need-enum-known-number
 enum-known-number c = search needs
@@ -42,7 +42,7 @@ enum-known-number c = search needs
 returns : tie.Need-returns
 returns c =
     let d = c .before .before .before in
-    c .refused .ensures ∙ block-fine (d .before .before .before .before .pre) _ _ (d .read-block .ensures .0) _ (c .before .enum-told .given .1)
+    c .unplaced .ensures ∙ block-fine (d .before .before .before .before .pre) _ _ (d .read-block .ensures .0) _ (c .before .enum-told .given .1)
 
 returns-2 : tie.Need-returns-2
 returns-2 c =
@@ -62,7 +62,7 @@ block-checked-spec =
     part-read-block-end
     read-block-requires
     enum-told
-    refused-requires
+    unplaced-requires
     enum-known-number
     returns
     returns-2)

@@ -3,7 +3,7 @@ use denote.Ref.{now}
 use mathlib.Core.Path.{_≡_, sym, ap, _∙_}
 use native.Mathlib.Omega.{arith}
 use Rattle.store.specs.declared.Answer.{Answer}
-use Rattle.programme.specs.Sheet.{blocksFrom, verdictOf}
+use Rattle.programme.specs.Sheet.{blocksFrom, checkAnswer}
 use Rattle.programme.specs.Starts.{RunningStart}
 use Rattle.programme.specs.Reading.{Stands}
 use Rattle.programme.proofs.Starts.{running-first, stands-next, end-small}
@@ -13,7 +13,7 @@ use Rattle.programme.proofs.blocks_checked.Tie as tie
 
 abbrev Inv-loop : tie.InvT-loop
 Inv-loop sheet k slots ends₀ start₀ i₀ ends start i =
-    (i ≤ k) × RunningStart sheet i start × (verdictOf (blocksFrom slots sheet k 0) ≡ verdictOf (blocksFrom slots sheet (k - i) i))
+    (i ≤ k) × RunningStart sheet i start × (checkAnswer (blocksFrom slots sheet k 0) ≡ checkAnswer (blocksFrom slots sheet (k - i) i))
 
 abbrev μ-loop : tie.MeasureT-loop
 μ-loop sheet k slots ends₀ start₀ i₀ ends start i = k - i
@@ -61,11 +61,11 @@ loop-again c =
           ∙ from-next _ _ _ _ _ (omega arith) (ap (λ (x : Answer). x .number) (sym e) ∙ c .if1 .left),
     )
 
-refused-requires : tie.Need-refused-requires Inv-loop μ-loop
-refused-requires c κs = tt
+unplaced-requires : tie.Need-unplaced-requires Inv-loop μ-loop
+unplaced-requires c κs = tt
 
 returns-2 : tie.Need-returns-2 Inv-loop μ-loop
-returns-2 c = c .refused .ensures ∙ from-none _ _ _ _ (omega arith) ∙ sym (c .before .before .loop .inv .2)
+returns-2 c = c .unplaced .ensures ∙ from-none _ _ _ _ (omega arith) ∙ sym (c .before .before .loop .inv .2)
 
 pub blocks-checked-spec : {M : Type 1} → statement M
 blocks-checked-spec =
@@ -82,5 +82,5 @@ blocks-checked-spec =
     add-i
     loop-less
     loop-again
-    refused-requires
+    unplaced-requires
     returns-2)

@@ -17,11 +17,11 @@ sized c = record {
   size = c .if4 .left;
 }
 
-refused-requires : tie.Need-refused-requires
-refused-requires c κs = search needs
+unplaced-requires : tie.Need-unplaced-requires
+unplaced-requires c κs = search needs
 
 returns : tie.Need-returns
-returns c = c .refused .ensures ∙ sheet-short _ _ _ (c .before .if1 .taken)
+returns c = c .unplaced .ensures ∙ sheet-short _ _ _ (c .before .if1 .taken)
 
 number-at-requires : tie.Need-number-at-requires
 number-at-requires c κs = search needs
@@ -29,22 +29,22 @@ number-at-requires c κs = search needs
 number-at-requires-2 : tie.Need-number-at-requires-2
 number-at-requires-2 c κs = search needs
 
-refused-requires-2 : tie.Need-refused-requires-2
-refused-requires-2 c κs = search needs
+unplaced-requires-2 : tie.Need-unplaced-requires-2
+unplaced-requires-2 c κs = search needs
 
 returns-2 : tie.Need-returns-2
 returns-2 c =
     let d = c .before .before in
-    c .refused2 .ensures
+    c .unplaced2 .ensures
     ∙ sheet-many _ _ _ _ _ (d .before .number-at .ensures) (d .number-at2 .ensures) (d .before .before .if1 .left) (c .before .if2 .taken)
 
-refused-requires-3 : tie.Need-refused-requires-3
-refused-requires-3 c κs = search needs
+unplaced-requires-3 : tie.Need-unplaced-requires-3
+unplaced-requires-3 c κs = search needs
 
 returns-3 : tie.Need-returns-3
 returns-3 c =
     let d = c .before .before .before in
-    c .refused3 .ensures
+    c .unplaced3 .ensures
     ∙ sheet-large _ _ _ _ _ (d .before .number-at .ensures) (d .number-at2 .ensures) (d .before .before .if1 .left) (c .before .before .if2 .left) (c .before .if3 .taken)
 
 mul-if4 : tie.Need-mul-if4
@@ -56,36 +56,36 @@ add-if4 c = search needs
 add-if4-2 : tie.Need-add-if4-2
 add-if4-2 c = search needs
 
-refused-requires-4 : tie.Need-refused-requires-4
-refused-requires-4 c κs = search needs
+unplaced-requires-4 : tie.Need-unplaced-requires-4
+unplaced-requires-4 c κs = search needs
 
 returns-4 : tie.Need-returns-4
 returns-4 c =
     let d = c .before .before .before .before in
-    c .refused4 .ensures
+    c .unplaced4 .ensures
     ∙ sheet-size _ _ _ _ _ (d .before .number-at .ensures) (d .number-at2 .ensures) (d .before .before .if1 .left)
     (c .before .before .before .if2 .left) (c .before .before .if3 .left) (c .before .if4 .taken)
 
 headers-good-requires : tie.Need-headers-good-requires
 headers-good-requires c κs = search needs
 
-refused-requires-5 : tie.Need-refused-requires-5
-refused-requires-5 c κs = search needs
+unplaced-requires-5 : tie.Need-unplaced-requires-5
+unplaced-requires-5 c κs = search needs
 
 returns-5 : tie.Need-returns-5
 returns-5 c =
-    c .refused5 .ensures
+    c .unplaced5 .ensures
     ∙ sheet-header (sized (c .before .before .before)) _ _ (sym (c .before .before .headers-good .ensures) ∙ not-true _ (c .before .if5 .taken))
 
 lengths-sum-requires : tie.Need-lengths-sum-requires
 lengths-sum-requires c κs = search needs
 
-refused-requires-6 : tie.Need-refused-requires-6
-refused-requires-6 c κs = search needs
+unplaced-requires-6 : tie.Need-unplaced-requires-6
+unplaced-requires-6 c κs = search needs
 
 returns-6 : tie.Need-returns-6
 returns-6 c =
-    c .refused6 .ensures
+    c .unplaced6 .ensures
     ∙ sheet-sum (sized (c .before .before .before .before .before)) _ _
     (sym (c .before .before .before .before .headers-good .ensures) ∙ not-false _ (c .before .before .before .if5 .left))
     (λ h. c .before .if6 .taken (c .before .before .lengths-sum .ensures .sum ∙ h))
@@ -104,24 +104,24 @@ pub sheet-checked-spec : {M : Type 1} → statement M
 sheet-checked-spec =
     tie.close
     (tie.spec
-    refused-requires
+    unplaced-requires
     returns
     number-at-requires
     number-at-requires-2
-    refused-requires-2
+    unplaced-requires-2
     returns-2
-    refused-requires-3
+    unplaced-requires-3
     returns-3
     mul-if4
     add-if4
     add-if4-2
-    refused-requires-4
+    unplaced-requires-4
     returns-4
     headers-good-requires
-    refused-requires-5
+    unplaced-requires-5
     returns-5
     lengths-sum-requires
-    refused-requires-6
+    unplaced-requires-6
     returns-6
     blocks-checked-requires
     returns-7)

@@ -8,32 +8,32 @@ use Rattle.runner.proofs.run.Tie as tie
 judges-of-requires : tie.Need-judges-of-requires
 judges-of-requires c κs = search needs
 
-refused-requires : tie.Need-refused-requires
-refused-requires c κs = search needs
+unplaced-requires : tie.Need-unplaced-requires
+unplaced-requires c κs = search needs
 
 returns : tie.Need-returns
-returns c = whole-rule _ _ _ _ _ _ (c .before .before .judges-of .ensures) _ (c .refused .ensures) (not-true _ (c .before .if1 .taken))
+returns c = whole-rule _ _ _ _ _ _ (c .before .before .judges-of .ensures) _ (c .unplaced .ensures) (not-true _ (c .before .if1 .taken))
 
-refused-requires-2 : tie.Need-refused-requires-2
-refused-requires-2 c κs = search needs
+unplaced-requires-2 : tie.Need-unplaced-requires-2
+unplaced-requires-2 c κs = search needs
 
 returns-2 : tie.Need-returns-2
 returns-2 c =
     let d = c .before .before in
-    whole-budget _ _ _ _ _ _ (d .before .judges-of .ensures) (not-false _ (d .if1 .left)) _ (c .refused2 .ensures) (omega (arith, c .before .if2 .taken))
+    whole-budget _ _ _ _ _ _ (d .before .judges-of .ensures) (not-false _ (d .if1 .left)) _ (c .unplaced2 .ensures) (omega (arith, c .before .if2 .taken))
 
 open-store-requires : tie.Need-open-store-requires
 open-store-requires c κs = search needs
 
-refused-requires-3 : tie.Need-refused-requires-3
-refused-requires-3 c κs = search needs
+unplaced-requires-3 : tie.Need-unplaced-requires-3
+unplaced-requires-3 c κs = search needs
 
 returns-3 : tie.Need-returns-3
 returns-3 c =
     let o = c .before .before in
     let d = o .before .before .before in
     whole-store _ _ _ _ _ _ (d .before .judges-of .ensures) (not-false _ (d .if1 .left)) (omega (arith, o .before .before .if2 .left)) _ (o .open-store .ensures .0) _
-    (c .refused3 .ensures) (c .before .if3 .taken)
+    (c .unplaced3 .ensures) (c .before .if3 .taken)
 
 run-opened-requires : tie.Need-run-opened-requires
 run-opened-requires c κs =
@@ -59,12 +59,12 @@ run-spec =
     tie.close
     (tie.spec
     judges-of-requires
-    refused-requires
+    unplaced-requires
     returns
-    refused-requires-2
+    unplaced-requires-2
     returns-2
     open-store-requires
-    refused-requires-3
+    unplaced-requires-3
     returns-3
     run-opened-requires
     same-length

@@ -13,13 +13,13 @@ returns c = opened-refused _ _ _ _ _ _ (c .before .before .check-programme .ensu
 mul-if2 : tie.Need-mul-if2
 mul-if2 c = omega (arith, slots-few _ _ _ _ (c .before .before .before .before .before .before .pre))
 
-refused-requires : tie.Need-refused-requires
-refused-requires c κs = search needs
+unplaced-requires : tie.Need-unplaced-requires
+unplaced-requires c κs = search needs
 
 returns-2 : tie.Need-returns-2
 returns-2 c =
     let d = c .before .before in
-    opened-room _ _ _ _ _ _ (d .before .before .check-programme .ensures) _ _ (d .if1 .left) (c .before .if2 .taken) (c .refused .ensures)
+    opened-room _ _ _ _ _ _ (d .before .before .check-programme .ensures) _ _ (d .if1 .left) (c .before .if2 .taken) (c .unplaced .ensures)
 
 finish-requires : tie.Need-finish-requires
 finish-requires c κs =
@@ -42,7 +42,7 @@ run-opened-spec =
     check-programme-requires
     returns
     mul-if2
-    refused-requires
+    unplaced-requires
     returns-2
     finish-requires
     same-length
