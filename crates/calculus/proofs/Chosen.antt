@@ -5,7 +5,7 @@ use mathlib.Core.Logic.{⊎-elim}
 use mathlib.Core.Bool.{true, false, true≢false, false≢true}
 use mathlib.Core.List.{List, _++_}
 use native.Mathlib.Omega.{arith}
-use lib.ListN.{getD, length}
+use lib.ListN.{getD}
 use borrow.Author.Tests.{eq-eqb}
 use borrow.Table.Steps.{cases}
 use Rattle.lattice.specs.Tests.{_and_, _or_, _implies_, every, some, find}
@@ -28,7 +28,7 @@ use Rattle.calculus.specs.Run.{FinishedRun, runProgramme, runOpened, run
 use Rattle.calculus.specs.Vectors.{int, writes}
 use Rattle.calculus.specs.Isolation.{Protected, withinReach, unchanged, exchanged, Replaced, Replacement}
 use Rattle.calculus.specs.Deputy.{NoControl, DirectWrite, Noninterference}
-use Rattle.calculus.specs.Chosen.{SufficesUnderCapability, sheet, tables, slots, obeys, sent, left, ChosenWorked}
+use Rattle.calculus.specs.Chosen.{SufficesUnderCapability, sheet, tables, slots, sent, left, ChosenWorked}
 use Rattle.calculus.proofs.Rules.{rules-one}
 use Rattle.calculus.proofs.Steps.{post-tried}
 use Rattle.calculus.proofs.Taint.{Tainted, Agree, agree-refl, agree-tainted}
@@ -52,10 +52,10 @@ module _ (w : Setting) (a : Label) (v : Value) (own : Tainted (w .tables) a (own
       (λ _. post-bind (λ _. Unit {0}) _ _ _ _ (post-all _ _ _ (λ _. tt) (λ _. tt)) λ y _.
       post-require _ _ _ _ _ (λ _. post-require _ _ _ _ _ (λ _. post-ok _ _ _ p) (λ _. tt)) (λ _. tt)) (λ _. tt)
 
-  target-keeps : (u : Store) (at end : ℕ) (branch : Label) (s : State) → Agree (w .tables) a (s .store) u
-      → Ends (λ t. Agree (w .tables) a t u) (exec w (cmd at end (assign (literal v) e)) branch s)
+  target-keeps : (u : Store) (at : ℕ) (branch : Label) (s : State) → Agree (w .tables) a (s .store) u
+      → Ends (λ t. Agree (w .tables) a t u) (exec w (cmd at (assign (literal v) e)) branch s)
   unfolding exec execBody performed counted
-  target-keeps u at end branch s m =
+  target-keeps u at branch s m =
       post-bind (λ x. Agree (w .tables) a (written x (s .store)) u) _ _ _ _
       (post-tried w at s _ _ _
       (post-map _ _ _ _ _ (literal-target branch (s .store)) (λ x p. agree-tainted (w .tables) a x (s .store) u p m) (λ _ _. m)) m)
@@ -64,7 +64,7 @@ module _ (w : Setting) (a : Label) (v : Value) (own : Tainted (w .tables) a (own
 -- block 1 as it is read
 abbrev obeying : Cmd
 obeying =
-    cmd 0 (length obeys) (
+    cmd 0 (
     assign (literal (record { kind = writeView; payload = 1 })) (read (read (literal (record { kind = readView; payload = 0 })))))
 
 -- Noninterference
@@ -86,7 +86,7 @@ module _ (own : Tainted tables 0 (ownerOf tables 1)) (within : withinReach table
         cases (withinReach tables 0 q j)
         (λ e. reach-keeps (setting tables _ k b) 0 (opens store tables s opening .ordered) in-0 (rw (is .header) e) s (b .command) _ t m)
         (λ e. rw (outside-left tables 0 (sent 2) q r (λ _ code. (c : Cmd) → readBlock (tables .slots) code ≡ ok c → c ≡ obeying) outside j (is .inside) e
-        (b .command) (is .code)) (target-keeps (setting tables _ k b) 0 _ own _ s 0 (length obeys) _ t m))
+        (b .command) (is .code)) (target-keeps (setting tables _ k b) 0 _ own _ s 0 _ t m))
 
     kept : (i : ℕ) → Protected tables 0 i → part out (slotWidth * i) slotWidth ≡ slotBytes (getD s i emptySlot)
     kept =

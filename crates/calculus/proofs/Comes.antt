@@ -28,8 +28,8 @@ module _ (w : Setting) where
   at-step C at s t r c =
       post-tried w at s _ _ r (post-map _ _ _ _ _ (post-self r) (λ a e. e) (λ _ _. record { task = t; comes = c })) (record { task = t; comes = c })
 
-  module _ (g : Expr) (c : Cmd) (at end : ℕ) (l : Label) (body : (l : Label) (s : State) → Refuses (Before (Comes w c l s)) (exec w c l s)) where
-    rounds-come : (n : ℕ) (s : State) → Refuses (Before (Comes w (cmd at end (while g c)) l s))
+  module _ (g : Expr) (c : Cmd) (at : ℕ) (l : Label) (body : (l : Label) (s : State) → Refuses (Before (Comes w c l s)) (exec w c l s)) where
+    rounds-come : (n : ℕ) (s : State) → Refuses (Before (Comes w (cmd at (while g c)) l s))
         (loop (λ t. step w at t (judge w (t .store) g)) (λ l′ t. exec w c (meet (w .tables .order) l l′) t) at n s)
     unfolding loop
     rounds-come zero s = post-refuse _ _ _ (record { task = judging g; comes = at-while })
@@ -44,21 +44,21 @@ module _ (w : Setting) where
     unfolding exec execBody execs
 
     pub exec-comes : (c : Cmd) (l : Label) (s : State) → Refuses (Before (Comes w c l s)) (exec w c l s)
-    exec-comes (cmd at end b) l s = body-comes b at end l s
+    exec-comes (cmd at b) l s = body-comes b at l s
 
-    body-comes : (b : Body) (at end : ℕ) (l : Label) (s : State) → Refuses (Before (Comes w (cmd at end b) l s)) (execBody w b at l s)
-    body-comes skip at end l s = post-ok _ _ _ tt
-    body-comes (assign x v) at end l s = post-bind _ _ _ _ _ (at-step _ at s _ _ at-assignment) (λ _ _. post-ok _ _ _ tt)
-    body-comes (seq cs) at end l s = execs-come cs at end l s
-    body-comes (if g c d) at end l s =
+    body-comes : (b : Body) (at : ℕ) (l : Label) (s : State) → Refuses (Before (Comes w (cmd at b) l s)) (execBody w b at l s)
+    body-comes skip at l s = post-ok _ _ _ tt
+    body-comes (assign x v) at l s = post-bind _ _ _ _ _ (at-step _ at s _ _ at-assignment) (λ _ _. post-ok _ _ _ tt)
+    body-comes (seq cs) at l s = execs-come cs at l s
+    body-comes (if g c d) at l s =
         post-bind _ _ _ _ _ (at-step _ at s _ _ at-if) λ j q.
         post-choose _ _ _ _ _ _
         (λ e. inner _ _ _ _ (λ _ _. tt) (λ p x. in-then q e x) (exec-comes c _ (counted s)))
         (λ e. inner _ _ _ _ (λ _ _. tt) (λ p x. in-else q e x) (exec-comes d _ (counted s)))
-    body-comes (while g c) at end l s = rounds-come g c at end l (λ l t. exec-comes c l t) (w .budget - s .steps) s
+    body-comes (while g c) at l s = rounds-come g c at l (λ l t. exec-comes c l t) (w .budget - s .steps) s
 
-    execs-come : (cs : Cmds) (at end : ℕ) (l : Label) (s : State) → Refuses (Before (Comes w (cmd at end (seq cs)) l s)) (execs w cs l s)
-    execs-come nil at end l s = post-ok _ _ _ tt
-    execs-come (cons c cs) at end l s =
+    execs-come : (cs : Cmds) (at : ℕ) (l : Label) (s : State) → Refuses (Before (Comes w (cmd at (seq cs)) l s)) (execs w cs l s)
+    execs-come nil at l s = post-ok _ _ _ tt
+    execs-come (cons c cs) at l s =
         post-bind _ _ _ _ _ (inner _ _ _ _ (λ _ d. d) (λ p x. in-first x) (exec-comes c l s)) λ t d.
-        inner _ _ _ _ (λ _ _. tt) (λ p x. in-rest d x) (execs-come cs at end l t)
+        inner _ _ _ _ (λ _ _. tt) (λ p x. in-rest d x) (execs-come cs at l t)

@@ -27,7 +27,7 @@ use Rattle.store.proofs.Opening.{Opens}
 use Rattle.programme.specs.Syntax.{literal, cmd, assign}
 use Rattle.programme.specs.Code.{upTo, readValue, exprBy, readExpr, exprAt, sorted, cmdByte, readAssign, bodyBy, readBody, readBlock}
 use Rattle.programme.specs.Sheet.{Block, kOf, endorsedBit, headerOf, startOf, headerGood, blockAt, blocksFrom, programmeSheet}
-use Rattle.programme.proofs.Values.{expr-is-literal}
+use Rattle.programme.proofs.Due.{expr-is-literal}
 use Rattle.calculus.specs.Rules.{RuleSet, accessControl, capability, explicitProvenance, fullProvenance, rulesOf, judgesViews, labelsJudged, allAbove}
 use Rattle.calculus.specs.Calculus.{Setting, Store, State, inRegion, mayHold, admit, eval, authorised, reliable, permit, assignment, counted, written, performed, step, exec, execBody}
 use Rattle.calculus.specs.Blocks.{setting, runBlocks, start}
@@ -110,7 +110,7 @@ unfolding wellFormed _and_ _or_
 view-formed m i h = lt-ltb i m h
 
 code-read : (m i : ℕ) (v : Value) → m ≤ mostSlots → i < m → wellFormed m v ≡ true
-    → readBlock m (code i v) ≡ ok (cmd 0 size (assign (literal (view i)) (literal (again v))))
+    → readBlock m (code i v) ≡ ok (cmd 0 (assign (literal (view i)) (literal (again v))))
 unfolding readBlock readBody bodyBy readAssign sorted cmdByte _>>=_ require valueAt valueBytes numberAt numberBytes
 code-read m i v l h f =
     let e = value-read (view i) (omega arith) (omega arith) in
@@ -127,7 +127,7 @@ header-read a h = ap₂ (λ (r : ℕ) (e : Bool). record { region = r; endorsed 
 -- the block, and the programme of this block alone
 abbrev block : Label → ℕ → Value → Block
 block a i v =
-    record { header = record { region = a; endorsed = false }; command = cmd 0 size (assign (literal (view i)) (literal (again v))) }
+    record { header = record { region = a; endorsed = false }; command = cmd 0 (assign (literal (view i)) (literal (again v))) }
 
 abbrev programme : Label → ℕ → Value → List ℕ
 programme a i v = one a (code i v)

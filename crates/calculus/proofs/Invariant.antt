@@ -31,7 +31,7 @@ module _ (w : Setting) (P : Value → Type 0) (I : Store → Type 0) (C : Label 
 
     pub exec-keeps : (c : Cmd) → Literals P c → (branch : Label) → C branch → (s : State) → I (s .store)
         → Ends I (exec w c branch s)
-    exec-keeps (cmd at end b) l branch k s m = body-keeps b l at branch k s m
+    exec-keeps (cmd at b) l branch k s m = body-keeps b l at branch k s m
 
     body-keeps : (b : Body) → LiteralsBody P b → (at : ℕ) (branch : Label) → C branch → (s : State) → I (s .store)
         → Ends I (execBody w b at branch s)

@@ -181,11 +181,11 @@ module _ (w : Setting) where
       post-bind _ _ _ _ _ (post-map _ _ _ _ _ (evaluates H g) (λ x p. p) (λ n p. Guard-in p)) λ x p.
       post-require _ _ _ _ _ (λ q. post-ok _ _ _ (Guard p q refl)) (λ q. Guard-13 p q)
 
-  pub assigns : (H : Store) (pc : Label) (PC : List Label) (at end : ℕ) (x y : Expr) (k : Code)
-      → Post (λ z. regionOf w ⊢ ⟨ H ∣ pc ∷ PC ∣ cmd at end (assign x y) ⨾ k ⟩ ⟶ ⟨ written z H ∣ pc ∷ PC ∣ k ⟩)
+  pub assigns : (H : Store) (pc : Label) (PC : List Label) (at : ℕ) (x y : Expr) (k : Code)
+      → Post (λ z. regionOf w ⊢ ⟨ H ∣ pc ∷ PC ∣ cmd at (assign x y) ⨾ k ⟩ ⟶ ⟨ written z H ∣ pc ∷ PC ∣ k ⟩)
       (λ n. regionOf w ⊢⟨ H ∣ assigning pc x y ⟩✗ n) (assignment w pc H x y)
   unfolding assignment permit
-  assigns H pc PC at end x y k =
+  assigns H pc PC at x y k =
       post-bind _ _ _ _ _ (post-map _ _ _ _ _ (evaluates H x) (λ r p. p) (λ n p. Target-in p)) λ r p.
       post-require _ _ _ _ _
       (λ t. post-bind _ _ _ _ _ (post-map _ _ _ _ _ (evaluates H y) (λ v q. q) (λ n q. Value-in p t q)) λ v q.

@@ -122,7 +122,7 @@ module _ (own : ℕ) (rules′ : RuleSet) (budget′ : ℕ) (w : Setting) (m : M
     unfolding exec execBody execs
 
     exec-eased : (c : Cmd) (branch : Label) (s : State) → Within s → Easier (exec w c branch s) (exec w′ c branch s)
-    exec-eased (cmd at end b) branch s h = body-eased b at branch s h
+    exec-eased (cmd at b) branch s h = body-eased b at branch s h
 
     body-eased : (b : Body) (at : ℕ) (branch : Label) (s : State) → Within s → Easier (execBody w b at branch s) (execBody w′ b at branch s)
     body-eased skip at branch s h = eased-end s

@@ -202,7 +202,7 @@ module _ (w : Tables) (a : Label) (o : Ordered w) (in-a : Principal w a) (h : He
         unfolding exec execBody execs performed counted
 
         twice : (c : Cmd) → Twice c
-        twice (cmd at end c) branch p s t m = twice-body c at branch p s t m
+        twice (cmd at c) branch p s t m = twice-body c at branch p s t m
 
         twice-body : (c : Body) → TwiceBody c
         twice-body skip at branch p s t m = post₂-ok _ _ _ _ m

@@ -39,12 +39,12 @@ TriesAt (before i n H bs) at t = ⊥
 TriesAt (during i n h ⟨ H ∣ PC ∣ k ⟩ bs) at t = Tries PC k at t
 
 -- a sequence is opened before anything in it is tried
-not-seq : {PC : List Label} {at end o : ℕ} {cs : Cmds} {k : Code} {t : Task} → Tries PC (cmd at end (seq cs) ⨾ k) o t → ⊥
+not-seq : {PC : List Label} {at o : ℕ} {cs : Cmds} {k : Code} {t : Task} → Tries PC (cmd at (seq cs) ⨾ k) o t → ⊥
 not-seq = elim [ ]
 
-opened : {ρ : Header → Region} {i n at end : ℕ} {h : Header} {H : Store} {PC : List Label} {cs : Cmds} {k : Code} {bs : List Block}
+opened : {ρ : Header → Region} {i n at : ℕ} {h : Header} {H : Store} {PC : List Label} {cs : Cmds} {k : Code} {bs : List Block}
     {P : Stage} {e : Halt}
-    → ρ ⊩ during i n h ⟨ H ∣ PC ∣ cmd at end (seq cs) ⨾ k ⟩ bs ⟹* P → Due P e → ρ ⊩ during i n h ⟨ H ∣ PC ∣ cs ⨾⨾ k ⟩ bs ⟹* P
+    → ρ ⊩ during i n h ⟨ H ∣ PC ∣ cmd at (seq cs) ⨾ k ⟩ bs ⟹* P → Due P e → ρ ⊩ during i n h ⟨ H ∣ PC ∣ cs ⨾⨾ k ⟩ bs ⟹* P
 opened here (Due-17 x) = absurd (not-seq x)
 opened (after p ps) x = rw (deterministic p (Prg-1-silent Seq)) at ps
 
@@ -98,9 +98,9 @@ module _ (w : Tables) (rules : RuleSet) (budget i : ℕ) (h : Header) (bs : List
   within : (c : Cmd) (pc : Label) (s : State) → Post (λ t. s .steps ≤ budget → t .steps ≤ budget) Any (exec W c pc s)
   within c pc s = post-when _ _ λ l. post-map _ _ _ _ _ (exec-counts W 0 c pc s (record { grown = omega arith; kept = l })) (λ t x. x .kept) (λ _ _. tt)
 
-  module _ (g : Expr) (c : Cmd) (at end : ℕ) (pc : Label) (PC : List Label) (k : Code) where
+  module _ (g : Expr) (c : Cmd) (at : ℕ) (pc : Label) (PC : List Label) (k : Code) where
     abbrev again : Code
-    again = cmd at end (while g c) ⨾ k
+    again = cmd at (while g c) ⨾ k
 
     module _ (body : (l : Label) (s : State) → Does (l ∷ pc ∷ PC) (c ⨾ end⨾ again) (end⨾ again) s (exec W c l s)) where
       rounds-go : (n : ℕ) (s : State) → budget ≤ n + s .steps
@@ -124,25 +124,25 @@ module _ (w : Tables) (rules : RuleSet) (budget i : ℕ) (h : Header) (bs : List
     unfolding exec execBody execs counted performed _⨾⨾_
 
     pub exec-goes : (c : Cmd) (pc : Label) (s : State) (PC : List Label) (k : Code) → Does (pc ∷ PC) (c ⨾ k) k s (exec W c pc s)
-    exec-goes (cmd at end b) pc s PC k = body-goes b at end pc s PC k
+    exec-goes (cmd at b) pc s PC k = body-goes b at pc s PC k
 
-    body-goes : (b : Body) (at end : ℕ) (pc : Label) (s : State) (PC : List Label) (k : Code)
-        → Does (pc ∷ PC) (cmd at end b ⨾ k) k s (execBody W b at pc s)
-    body-goes skip at end pc s PC k = post-ok _ _ _ (after (Prg-1-silent Seq-2) here)
-    body-goes (assign x v) at end pc s PC k =
+    body-goes : (b : Body) (at : ℕ) (pc : Label) (s : State) (PC : List Label) (k : Code)
+        → Does (pc ∷ PC) (cmd at b ⨾ k) k s (execBody W b at pc s)
+    body-goes skip at pc s PC k = post-ok _ _ _ (after (Prg-1-silent Seq-2) here)
+    body-goes (assign x v) at pc s PC k =
         post-bind _ _ _ _ _
-        (tried _ at s _ _ _ _ Tries-assign (assigns W (s .store) pc PC at end x v k))
+        (tried _ at s _ _ _ _ Tries-assign (assigns W (s .store) pc PC at x v k))
         (λ y q. post-ok _ _ _ (after (Prg-1 (q .0)) here))
-    body-goes (seq cs) at end pc s PC k =
+    body-goes (seq cs) at pc s PC k =
         post-map _ _ _ _ _ (execs-goes cs pc s PC k) (λ t q. after (Prg-1-silent Seq) q) (λ e q l. go-on (after (Prg-1-silent Seq) here) (q l))
-    body-goes (if g c d) at end pc s PC k =
+    body-goes (if g c d) at pc s PC k =
         post-bind _ _ _ _ _ (tried _ at s _ _ _ _ Tries-if (judges W (s .store) g)) λ j q.
         let l = meet (w .order) pc (j .label) in
         post-choose _ _ _ _ _ _
         (λ e. branch l (pc ∷ PC) _ k _ s _ (q .1) (after (Prg-1 (If (judged-as (q .0) e))) here) (exec-goes c l (counted s) (pc ∷ PC) (end⨾ k)))
         (λ e. branch l (pc ∷ PC) _ k _ s _ (q .1) (after (Prg-1 (Else (judged-as (q .0) e))) here) (exec-goes d l (counted s) (pc ∷ PC) (end⨾ k)))
-    body-goes (while g c) at end pc s PC k =
-        rounds-go g c at end pc PC k (λ l t. exec-goes c l t (pc ∷ PC) (end⨾ cmd at end (while g c) ⨾ k)) (budget - s .steps) s (omega arith)
+    body-goes (while g c) at pc s PC k =
+        rounds-go g c at pc PC k (λ l t. exec-goes c l t (pc ∷ PC) (end⨾ cmd at (while g c) ⨾ k)) (budget - s .steps) s (omega arith)
 
     execs-goes : (cs : Cmds) (pc : Label) (s : State) (PC : List Label) (k : Code) → Does (pc ∷ PC) (cs ⨾⨾ k) k s (execs W cs pc s)
     execs-goes nil pc s PC k = post-ok _ _ _ here
@@ -176,10 +176,10 @@ module _ (w : Tables) (rules : RuleSet) (budget i : ℕ) (h : Header) (bs : List
       (y .0, y .1, after (Prg-1-silent Seq) (then-all run (opened (y .2) (Due-17 (y .3)))), y .3)
   comes-goes (in-then {l = l} q e x) PC k = onwards (after (Prg-1 (If (judged q e))) here) (comes-goes x (l ∷ PC) (end⨾ k))
   comes-goes (in-else {l = l} q e x) PC k = onwards (after (Prg-1 (Else (judged q e))) here) (comes-goes x (l ∷ PC) (end⨾ k))
-  comes-goes (in-body {at = at} {end = end} {g = g} {c = c} {l = l} q e x) PC k =
-      onwards (after (Prg-1 (While-1 (judged q e))) here) (comes-goes x (l ∷ PC) (end⨾ cmd at end (while g c) ⨾ k))
-  comes-goes (in-later-round {at = at} {end = end} {g = g} {c = c} {l = l} q e d x) PC k =
-      let run = post-at _ _ _ _ (exec-goes c _ _ (l ∷ PC) (end⨾ cmd at end (while g c) ⨾ k)) d in
+  comes-goes (in-body {at = at} {g = g} {c = c} {l = l} q e x) PC k =
+      onwards (after (Prg-1 (While-1 (judged q e))) here) (comes-goes x (l ∷ PC) (end⨾ cmd at (while g c) ⨾ k))
+  comes-goes (in-later-round {at = at} {g = g} {c = c} {l = l} q e d x) PC k =
+      let run = post-at _ _ _ _ (exec-goes c _ _ (l ∷ PC) (end⨾ cmd at (while g c) ⨾ k)) d in
       onwards (after (Prg-1 (While-1 (judged q e))) (then-all run (after (Prg-1-silent End) here))) (comes-goes x PC k)
 
   -- after as many steps it comes to one step
@@ -206,8 +206,8 @@ module _ (w : Tables) (rules : RuleSet) (budget i : ℕ) (h : Header) (bs : List
   outcome-goes s (Tries-while {g = g}) =
       post-bind _ _ _ _ _ (judges W (s .store) g) λ j q.
       post-ok _ _ _ (cases (j .passes) (λ e. (_, Prg-1 (While-1 (judged-as q e)), refl)) (λ e. (_, Prg-1 (While-2 (judged-as q e)), refl)))
-  outcome-goes s (Tries-assign {pc = pc} {PC = PC} {at = at} {to = end} {x = x} {y = y} {k = k}) =
-      post-bind _ _ _ _ _ (assigns W (s .store) pc PC at end x y k) λ z q. post-ok _ _ _ (_, Prg-1 q, refl)
+  outcome-goes s (Tries-assign {pc = pc} {PC = PC} {at = at} {x = x} {y = y} {k = k}) =
+      post-bind _ _ _ _ _ (assigns W (s .store) pc PC at x y k) λ z q. post-ok _ _ _ (_, Prg-1 q, refl)
 
 -- a programme's run
 blocks-go : (w : Tables) (rules : RuleSet) (budget i : ℕ) (bs : List Block) (s : State) → s .steps ≤ budget

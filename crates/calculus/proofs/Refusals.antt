@@ -33,11 +33,11 @@ module _ (Q : ℕ → Type 0) (w : Setting) (q : Refusing Q w) where
   evals s (literal v) = admits _
   evals s (read e) = refuses-bind _ _ _ (evals s e) (λ x. refuses-require _ _ _ _ (q .kind) (admits _))
 
-  judges : (s : Store) (g : Expr) → Refuses Q (judge w s g)
+  pub judges : (s : Store) (g : Expr) → Refuses Q (judge w s g)
   unfolding judge
   judges s g = refuses-bind _ _ _ (evals s g) (λ x. refuses-require _ _ _ _ (q .kind) (refuses-ok _ _))
 
-  assigns : (branch : Label) (s : Store) (t v : Expr) → Refuses Q (assignment w branch s t v)
+  pub assigns : (branch : Label) (s : Store) (t v : Expr) → Refuses Q (assignment w branch s t v)
   unfolding assignment permit
   assigns branch s t v =
       refuses-bind _ _ _ (evals s t) λ x.
@@ -57,7 +57,7 @@ module _ (Q : ℕ → Type 0) (w : Setting) (q : Refusing Q w) (spent : Q 17) wh
     unfolding exec execBody execs
 
     exec-refuses : (c : Cmd) (branch : Label) (s : State) → Refuses Numbered (exec w c branch s)
-    exec-refuses (cmd at end b) branch s = body-refuses b at branch s
+    exec-refuses (cmd at b) branch s = body-refuses b at branch s
 
     body-refuses : (b : Body) (at : ℕ) (branch : Label) (s : State) → Refuses Numbered (execBody w b at branch s)
     body-refuses skip at branch s = refuses-ok _ _

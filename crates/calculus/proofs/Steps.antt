@@ -103,7 +103,7 @@ module _ (w : Setting) (from : ℕ) where
     unfolding exec execBody execs
 
     pub exec-counts : (c : Cmd) (branch : Label) (s : State) → Ok s → Post Ok Stopped (exec w c branch s)
-    exec-counts (cmd at end b) branch s h = body-counts b at branch s h
+    exec-counts (cmd at b) branch s h = body-counts b at branch s h
 
     pub body-counts : (b : Body) (at : ℕ) (branch : Label) (s : State) → Ok s → Post Ok Stopped (execBody w b at branch s)
     body-counts skip at branch s h = post-ok _ _ _ h

@@ -40,7 +40,7 @@ module _ (w : Setting) (g : Expr) (c : Cmd) (at : ℕ) (branch : Label) where
 -- a while command is one round of it, and then the same command again
 pub while-law : WhileLaw
 unfolding exec execBody loop
-while-law w g c at branch end s h =
+while-law w g c at branch s h =
     enough w g c at branch (w .budget - s .steps) (suc (w .budget)) s h (omega arith) (omega arith)
     ∙ once-same w g c at branch (rounds w g c at branch (w .budget)) (λ u. rounds w g c at branch (w .budget - u .steps) u) s h
     (λ u q. enough w g c at branch (w .budget) (w .budget - u .steps) u (q .kept) (omega arith) (omega (arith, q .kept)))

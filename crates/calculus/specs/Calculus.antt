@@ -1,7 +1,7 @@
 -- Document 01, "What a step does": expressions, guards, assignments, commands. Assumes nothing.
 use Prim.Native.Nat.{ℕ, zero, suc, _+_, _-_}
 use mathlib.Core.Bool.{Bool, true, false, not}
-use mathlib.Core.List.{List, [], _∷_}
+use mathlib.Core.List.{List}
 use lib.ListN.{getD, set}
 use lib.Dec.{eqb}
 use Rattle.lattice.specs.Tests.{_and_, _or_, _implies_}
@@ -143,7 +143,7 @@ loop guard body at (suc n) s =
 module _ (w : Setting) where
   unfoldable mutual
     pub exec : Cmd → Label → State → Result Stop State
-    exec (cmd at end b) branch s = execBody b at branch s
+    exec (cmd at b) branch s = execBody b at branch s
 
     pub execBody : Body → ℕ → Label → State → Result Stop State
     execBody skip at branch s = ok s
@@ -160,20 +160,3 @@ module _ (w : Setting) where
     pub execs : Cmds → Label → State → Result Stop State
     execs nil branch s = ok s
     execs (cons c cs) branch s = exec c branch s >>= λ t. execs cs branch t
-
--- Open commands
-
--- A command that is open while a part of it runs, and the branch label outside that part: what is left of a sequence, an if, a
--- while that judges again.
-pub data Frame : Type 0 where
-  inSeq : Cmds → Label → Frame
-  inIf : Frame
-  inWhile : Cmd → Label → Frame
-
--- what a stack of open commands still has to do, from the innermost out
-module _ (w : Setting) where
-  unfoldable pub resume : List Frame → State → Result Stop State
-  resume [] s = ok s
-  resume (inSeq cs branch ∷ fs) s = execs w cs branch s >>= λ t. resume fs t
-  resume (inIf ∷ fs) s = resume fs s
-  resume (inWhile c branch ∷ fs) s = exec w c branch s >>= λ t. resume fs t

@@ -46,10 +46,10 @@ pub data _⊢⟨_∣_⟩✗_ (ρ : Region) (H : Store) : Task → ℕ → Type 0
 
 -- the step that code comes to under its stack of branch labels: "offset of the command's first byte in its block", and the task
 pub data Tries : List Label → Code → ℕ → Task → Type 0 where
-  Tries-if : {pc : Label} {PC : List Label} {at to : ℕ} {g : Expr} {c d : Cmd} {k : Code} → Tries (pc ∷ PC) (cmd at to (if g c d) ⨾ k) at (judging g)
-  Tries-while : {pc : Label} {PC : List Label} {at to : ℕ} {g : Expr} {c : Cmd} {k : Code} → Tries (pc ∷ PC) (cmd at to (while g c) ⨾ k) at (judging g)
-  Tries-assign : {pc : Label} {PC : List Label} {at to : ℕ} {x y : Expr} {k : Code}
-      → Tries (pc ∷ PC) (cmd at to (assign x y) ⨾ k) at (assigning pc x y)
+  Tries-if : {pc : Label} {PC : List Label} {at : ℕ} {g : Expr} {c d : Cmd} {k : Code} → Tries (pc ∷ PC) (cmd at (if g c d) ⨾ k) at (judging g)
+  Tries-while : {pc : Label} {PC : List Label} {at : ℕ} {g : Expr} {c : Cmd} {k : Code} → Tries (pc ∷ PC) (cmd at (while g c) ⨾ k) at (judging g)
+  Tries-assign : {pc : Label} {PC : List Label} {at : ℕ} {x y : Expr} {k : Code}
+      → Tries (pc ∷ PC) (cmd at (assign x y) ⨾ k) at (assigning pc x y)
 
 -- By the rules: a run that may not go on, and how it is stopped. "A forbidden step is not counted."
 pub data Forbidden (ρ : Header → Region) : Stage → Halt → Type 0 where

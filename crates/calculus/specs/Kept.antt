@@ -70,22 +70,22 @@ module _ (w : Setting) where
   inside branch j = meet (w .tables .order) branch (j .label)
 
   pub data Comes : Cmd → Label → State → Place → Type 0 where
-    at-assignment : {at end : ℕ} {x v : Expr} {l : Label} {s : State} → Comes (cmd at end (assign x v)) l s (stepAt at s (assigning l x v))
-    at-if : {at end : ℕ} {g : Expr} {c d : Cmd} {l : Label} {s : State} → Comes (cmd at end (if g c d)) l s (stepAt at s (judging g))
-    at-while : {at end : ℕ} {g : Expr} {c : Cmd} {l : Label} {s : State} → Comes (cmd at end (while g c)) l s (stepAt at s (judging g))
-    in-first : {at end : ℕ} {c : Cmd} {cs : Cmds} {l : Label} {s : State} {p : Place}
-        → Comes c l s p → Comes (cmd at end (seq (cons c cs))) l s p
-    in-rest : {at end : ℕ} {c : Cmd} {cs : Cmds} {l : Label} {s t : State} {p : Place}
-        → exec w c l s ≡ ok t → Comes (cmd at end (seq cs)) l t p → Comes (cmd at end (seq (cons c cs))) l s p
-    in-then : {at end : ℕ} {g : Expr} {c d : Cmd} {l : Label} {s : State} {p : Place} {j : Judged}
-        → judge w (s .store) g ≡ ok j → j .passes ≡ true → Comes c (inside l j) (counted s) p → Comes (cmd at end (if g c d)) l s p
-    in-else : {at end : ℕ} {g : Expr} {c d : Cmd} {l : Label} {s : State} {p : Place} {j : Judged}
-        → judge w (s .store) g ≡ ok j → j .passes ≡ false → Comes d (inside l j) (counted s) p → Comes (cmd at end (if g c d)) l s p
-    in-body : {at end : ℕ} {g : Expr} {c : Cmd} {l : Label} {s : State} {p : Place} {j : Judged}
-        → judge w (s .store) g ≡ ok j → j .passes ≡ true → Comes c (inside l j) (counted s) p → Comes (cmd at end (while g c)) l s p
-    in-later-round : {at end : ℕ} {g : Expr} {c : Cmd} {l : Label} {s t : State} {p : Place} {j : Judged}
+    at-assignment : {at : ℕ} {x v : Expr} {l : Label} {s : State} → Comes (cmd at (assign x v)) l s (stepAt at s (assigning l x v))
+    at-if : {at : ℕ} {g : Expr} {c d : Cmd} {l : Label} {s : State} → Comes (cmd at (if g c d)) l s (stepAt at s (judging g))
+    at-while : {at : ℕ} {g : Expr} {c : Cmd} {l : Label} {s : State} → Comes (cmd at (while g c)) l s (stepAt at s (judging g))
+    in-first : {at : ℕ} {c : Cmd} {cs : Cmds} {l : Label} {s : State} {p : Place}
+        → Comes c l s p → Comes (cmd at (seq (cons c cs))) l s p
+    in-rest : {at : ℕ} {c : Cmd} {cs : Cmds} {l : Label} {s t : State} {p : Place}
+        → exec w c l s ≡ ok t → Comes (cmd at (seq cs)) l t p → Comes (cmd at (seq (cons c cs))) l s p
+    in-then : {at : ℕ} {g : Expr} {c d : Cmd} {l : Label} {s : State} {p : Place} {j : Judged}
+        → judge w (s .store) g ≡ ok j → j .passes ≡ true → Comes c (inside l j) (counted s) p → Comes (cmd at (if g c d)) l s p
+    in-else : {at : ℕ} {g : Expr} {c d : Cmd} {l : Label} {s : State} {p : Place} {j : Judged}
+        → judge w (s .store) g ≡ ok j → j .passes ≡ false → Comes d (inside l j) (counted s) p → Comes (cmd at (if g c d)) l s p
+    in-body : {at : ℕ} {g : Expr} {c : Cmd} {l : Label} {s : State} {p : Place} {j : Judged}
+        → judge w (s .store) g ≡ ok j → j .passes ≡ true → Comes c (inside l j) (counted s) p → Comes (cmd at (while g c)) l s p
+    in-later-round : {at : ℕ} {g : Expr} {c : Cmd} {l : Label} {s t : State} {p : Place} {j : Judged}
         → judge w (s .store) g ≡ ok j → j .passes ≡ true → exec w c (inside l j) (counted s) ≡ ok t
-        → Comes (cmd at end (while g c)) l t p → Comes (cmd at end (while g c)) l s p
+        → Comes (cmd at (while g c)) l t p → Comes (cmd at (while g c)) l s p
 
 module _ {c : Call} (g : Good c) (k : ℕ) where
   -- "Before each step, if steps done equal the budget, the run is spent": k steps are done, and in a block of the sheet, which the run has

@@ -87,31 +87,31 @@ pub data Config : Type 0 where
 -- Silent: "A step is one guard judged or one assignment made; nothing else counts."
 pub data _⊢_⇝_ (ρ : Region) : Config → Config → Type 0 where
   -- "22 sequence, a count byte 2 to 255, then that many commands": the source's c; c has two parts. Then "20 skip"
-  Seq : {H : Store} {PC : List Label} {at to : ℕ} {cs : Cmds} {k : Code} → ρ ⊢ ⟨ H ∣ PC ∣ cmd at to (seq cs) ⨾ k ⟩ ⇝ ⟨ H ∣ PC ∣ cs ⨾⨾ k ⟩
-  Seq-2 : {H : Store} {PC : List Label} {at to : ℕ} {k : Code} → ρ ⊢ ⟨ H ∣ PC ∣ cmd at to skip ⨾ k ⟩ ⇝ ⟨ H ∣ PC ∣ k ⟩
+  Seq : {H : Store} {PC : List Label} {at : ℕ} {cs : Cmds} {k : Code} → ρ ⊢ ⟨ H ∣ PC ∣ cmd at (seq cs) ⨾ k ⟩ ⇝ ⟨ H ∣ PC ∣ cs ⨾⨾ k ⟩
+  Seq-2 : {H : Store} {PC : List Label} {at : ℕ} {k : Code} → ρ ⊢ ⟨ H ∣ PC ∣ cmd at skip ⨾ k ⟩ ⇝ ⟨ H ∣ PC ∣ k ⟩
   -- FP-endif and FP-endwhile: "after the part, or after each round before judging again, the outer one is back"
   End : {H : Store} {pc : Label} {PC : List Label} {k : Code} → ρ ⊢ ⟨ H ∣ pc ∷ PC ∣ end⨾ k ⟩ ⇝ ⟨ H ∣ PC ∣ k ⟩
 
 -- Counted. "Inside an if-part or a while body it is the meet of the outer one and the guard's label": pc ⊓ ℓ is pushed
 pub data _⊢_⟶_ (ρ : Region) : Config → Config → Type 0 where
-  If : {H : Store} {pc l : Label} {PC : List Label} {at to : ℕ} {g : Expr} {c d : Cmd} {k : Code}
+  If : {H : Store} {pc l : Label} {PC : List Label} {at : ℕ} {g : Expr} {c d : Cmd} {k : Code}
       → ρ ⊢⟨ H ∣ g ⟩⇓if true ^ l
-      → ρ ⊢ ⟨ H ∣ pc ∷ PC ∣ cmd at to (if g c d) ⨾ k ⟩ ⟶ ⟨ H ∣ meet (ρ .tables .order) pc l ∷ pc ∷ PC ∣ c ⨾ end⨾ k ⟩
-  Else : {H : Store} {pc l : Label} {PC : List Label} {at to : ℕ} {g : Expr} {c d : Cmd} {k : Code}
+      → ρ ⊢ ⟨ H ∣ pc ∷ PC ∣ cmd at (if g c d) ⨾ k ⟩ ⟶ ⟨ H ∣ meet (ρ .tables .order) pc l ∷ pc ∷ PC ∣ c ⨾ end⨾ k ⟩
+  Else : {H : Store} {pc l : Label} {PC : List Label} {at : ℕ} {g : Expr} {c d : Cmd} {k : Code}
       → ρ ⊢⟨ H ∣ g ⟩⇓if false ^ l
-      → ρ ⊢ ⟨ H ∣ pc ∷ PC ∣ cmd at to (if g c d) ⨾ k ⟩ ⟶ ⟨ H ∣ meet (ρ .tables .order) pc l ∷ pc ∷ PC ∣ d ⨾ end⨾ k ⟩
+      → ρ ⊢ ⟨ H ∣ pc ∷ PC ∣ cmd at (if g c d) ⨾ k ⟩ ⟶ ⟨ H ∣ meet (ρ .tables .order) pc l ∷ pc ∷ PC ∣ d ⨾ end⨾ k ⟩
   -- "A while whose guard is true runs its body and judges again."; one whose guard is false is over, under the labels that it had
-  While-1 : {H : Store} {pc l : Label} {PC : List Label} {at to : ℕ} {g : Expr} {c : Cmd} {k : Code}
+  While-1 : {H : Store} {pc l : Label} {PC : List Label} {at : ℕ} {g : Expr} {c : Cmd} {k : Code}
       → ρ ⊢⟨ H ∣ g ⟩⇓if true ^ l
-      → ρ ⊢ ⟨ H ∣ pc ∷ PC ∣ cmd at to (while g c) ⨾ k ⟩ ⟶ ⟨ H ∣ meet (ρ .tables .order) pc l ∷ pc ∷ PC ∣ c ⨾ end⨾ cmd at to (while g c) ⨾ k ⟩
-  While-2 : {H : Store} {pc l : Label} {PC : List Label} {at to : ℕ} {g : Expr} {c : Cmd} {k : Code}
+      → ρ ⊢ ⟨ H ∣ pc ∷ PC ∣ cmd at (while g c) ⨾ k ⟩ ⟶ ⟨ H ∣ meet (ρ .tables .order) pc l ∷ pc ∷ PC ∣ c ⨾ end⨾ cmd at (while g c) ⨾ k ⟩
+  While-2 : {H : Store} {pc l : Label} {PC : List Label} {at : ℕ} {g : Expr} {c : Cmd} {k : Code}
       → ρ ⊢⟨ H ∣ g ⟩⇓if false ^ l
-      → ρ ⊢ ⟨ H ∣ pc ∷ PC ∣ cmd at to (while g c) ⨾ k ⟩ ⟶ ⟨ H ∣ pc ∷ PC ∣ k ⟩
+      → ρ ⊢ ⟨ H ∣ pc ∷ PC ∣ cmd at (while g c) ⨾ k ⟩ ⟶ ⟨ H ∣ pc ∷ PC ∣ k ⟩
   -- "target evaluated first, must be a write view, then the value"; the label of the value is not stored: "Labels are not kept in slots."
-  Assign : {H : Store} {pc l l′ : Label} {PC : List Label} {at to : ℕ} {x y : Expr} {k : Code} {view v : Value}
+  Assign : {H : Store} {pc l l′ : Label} {PC : List Label} {at : ℕ} {x y : Expr} {k : Code} {view v : Value}
       → ρ ⊢⟨ H ∣ x ⟩⇓ view ^ l → isWriteView view ≡ true → ρ ⊢⟨ H ∣ y ⟩⇓ v ^ l′
       → asks ρ .slot (viewed view) → asks ρ .labels (viewed view) l l′ pc
-      → ρ ⊢ ⟨ H ∣ pc ∷ PC ∣ cmd at to (assign x y) ⨾ k ⟩ ⟶ ⟨ written (record { slot = viewed view; value = v }) H ∣ pc ∷ PC ∣ k ⟩
+      → ρ ⊢ ⟨ H ∣ pc ∷ PC ∣ cmd at (assign x y) ⨾ k ⟩ ⟶ ⟨ written (record { slot = viewed view; value = v }) H ∣ pc ∷ PC ∣ k ⟩
 
 -- Programmes, ρ{c} ∘ P: "Blocks run in order.", over one lattice, one map of owners and under one rule set
 abbrev pub regions : Tables → RuleSet → Header → Region

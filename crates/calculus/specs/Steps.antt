@@ -21,8 +21,8 @@ once w g c at branch k s =
 -- A while is one round of it, and then the same command again: the fuel of `loop` is not seen.
 abbrev pub WhileLaw : Type 0
 WhileLaw =
-    (w : Setting) (g : Expr) (c : Cmd) (at : ℕ) (branch : Label) (end : ℕ) (s : State) → s .steps ≤ w .budget
-    → exec w (cmd at end (while g c)) branch s ≡ once w g c at branch (exec w (cmd at end (while g c)) branch) s
+    (w : Setting) (g : Expr) (c : Cmd) (at : ℕ) (branch : Label) (s : State) → s .steps ≤ w .budget
+    → exec w (cmd at (while g c)) branch s ≡ once w g c at branch (exec w (cmd at (while g c)) branch) s
 
 -- Steps only grow and never pass the budget, in a run of blocks that ends and in one that is stopped.
 abbrev pub StepsBounded : Type 0

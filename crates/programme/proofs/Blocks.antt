@@ -1,152 +1,184 @@
--- Laws of the programme sheet's headers and blocks, and of what checking it answers. Assumes nothing.
-use Prim.Native.Nat.{ℕ, zero, suc, _+_, _<_, _≤_}
-use mathlib.Core.Path.{_≡_, refl, sym, ap, _∙_}
-use mathlib.Core.Bool.{true, false}
-use mathlib.Core.List.{List, _∷_}
+-- Blocks compiled one after the other: the invariant of the walk over them, and its cases. Assumes nothing.
+use Prim.Native.Nat.{ℕ, zero, suc, _+_, _-_, _*_, _<_, _≤_}
+use mathlib.Core.Path.{_≡_, refl, ap, _∙_}
+use mathlib.Core.List.{List, [], _∷_, _++_, append-assoc}
 use native.Mathlib.Omega.{arith}
-use lib.ListN.{length}
-use lib.Dec.{eqb}
-use borrow.Author.Tests.{lt-ltb, le-ltb, le-leb, lt-leb, eq-eqb, ne-eqb}
-use Rattle.lattice.specs.Tests.{_and_, every}
+use lib.ListN.{length, length-append}
 use Rattle.store.specs.declared.Answer.{Answer}
-use Rattle.store.specs.Result.{Result, ok, refuse, _>>=_, require, refusedAs, unplaced}
-use Rattle.store.proofs.Result.{Post, Any, post-ok, post-bind, post-map, post-refused-as}
-use Rattle.store.specs.Sheet.{sizesWidth}
-use Rattle.programme.specs.declared.Header.{Header}
-use Rattle.programme.specs.declared.Reading.{Reading}
-use Rattle.programme.specs.declared.Reading.the-variants.{End, Refused}
+use Rattle.store.specs.Result.{Result, ok, refuse, _>>=_, refusedAs, unplaced}
+use Rattle.store.proofs.Result.{Refuses, Post, post-at}
+use Rattle.programme.specs.declared.reader.Reading.{Reading}
+use Rattle.programme.specs.declared.reader.Reading.the-variants.{Done, Refused}
 use Rattle.programme.specs.Syntax.{Cmd}
-use Rattle.programme.specs.Code.{Fault, readBlock}
-use Rattle.programme.specs.Sheet.{Block, mostBlocks, mostCode, kOf, cOf, codeAt, startOf, codeOf, headerAt, headerGood, inBlock, blockAt, blocksFrom, programmeSheet, checkAnswer}
-use Rattle.programme.specs.Reading.{blockRead, blockReading, Stands}
-use Rattle.programme.proofs.Commands.{block-read}
-use Rattle.programme.proofs.Laid.{block-laid}
-use Rattle.programme.proofs.Starts.{lent, part-is, part-short}
+use Rattle.programme.specs.Code.{Fault, Read, upTo, mostDeep, readBlock}
+use Rattle.programme.specs.Sheet.{Block, kOf, cOf, codeAt, codeOf, lent, headerAt, blockAt, blocksFrom, checkAnswer}
+use Rattle.programme.specs.Starts.{RunningStart}
+use Rattle.programme.specs.Rows.{operandsOf, payloadsOf, endRow, exprsOf, size, rowsOf, blocksRows, blocksExprs, Compiled, filled, compiled, Kept, exprWidth, guardWidth, rowsIn, operandsIn}
+use Rattle.programme.specs.Reading.{blockRead, blockEmits, spotAt, BlockReads, CanRead, Stands, Compiles, CompilesTo}
+use Rattle.programme.proofs.Filled.{filled-on, kept-on}
+use Rattle.programme.proofs.Rows.{rows-length}
+use Rattle.programme.proofs.Spans.{block-spans}
+use Rattle.programme.proofs.Starts.{running-first, end-within, end-small, part-is, part-length}
+use Rattle.programme.proofs.Refusals.{blocks-refuse}
+use Rattle.programme.proofs.Parts.{Emitted, faultAt, emitted-kept, ended, refused-is, refused-kept}
 
--- A header's region against n principals.
-module _ (n : ℕ) (h h′ : Header) (e : h ≡ h′) where
-  pub header-fine : h .region < n → headerGood n h′ ≡ true
-  unfolding headerGood
-  header-fine l = rw (← e) (lt-ltb _ _ l)
+-- n blocks from the i-th on, in the tables: their first row and operand are given
+unfoldable pub BlocksFilled : List ℕ → ℕ → ℕ → Result Answer (List Block) → Compiled → Compiled → Type 0
+BlocksFilled p row operand (ok bs) old new = new ≡ filled (blocksRows bs row operand) (blocksExprs bs) row operand old
+BlocksFilled p row operand (refuse a) old new = Kept (rowsIn (cOf p) + kOf p) (operandsIn (cOf p)) old new
 
-  pub header-bad : n ≤ h .region → headerGood n h′ ≡ false
-  unfolding headerGood
-  header-bad l = rw (← e) (le-ltb _ _ l)
+-- the answer, and the tables
+pub record Leaves (p : List ℕ) (row operand : ℕ) (q : Result Answer (List Block)) (old new : Compiled) (r : Answer) : Type 0 where
+  pub same : r ≡ checkAnswer q
+  pub filled : BlocksFilled p row operand q old new
 
--- What reading a block answers, against what checking it does.
-module _ (i : ℕ) (f : Cmd → Block) where
-  check-fine : (z : ℕ) (r : Result Fault Cmd) → End z ≡ blockReading r
-      → unplaced 0 ≡ checkAnswer (refusedAs (inBlock i) r >>= λ c. ok (f c))
-  unfolding blockReading refusedAs checkAnswer _>>=_
-  check-fine z (ok c) h = refl
-  check-fine z (refuse e) h = let y : _≡_ {A = ℕ} 0 1 = cc in absurd (omega arith)
+-- Before block i: what the rest leaves, all leave.
+pub record Compiling (m : ℕ) (p : List ℕ) (k : ℕ) (t₀ : Compiled) (i start row operand : ℕ) (t : Compiled) : Type 0 where
+  pub few : i ≤ k
+  pub running : RunningStart p i start
+  pub rows : guardWidth * row ≤ 2 * start + guardWidth * i
+  pub operands : exprWidth * operand ≤ start
+  pub rest : (r : Answer) (new : Compiled) → Leaves p row operand (blocksFrom m p (k - i) i) t new r → Leaves p 0 0 (blocksFrom m p k 0) t₀ new r
 
-  check-bad : (n o : ℕ) (r : Result Fault Cmd) → Refused n o ≡ blockReading r
-      → _≡_ {A = Answer} (record { number = n; block = i; offset = o; steps = 0 }) (checkAnswer (refusedAs (inBlock i) r >>= λ c. ok (f c)))
-  unfolding blockReading refusedAs checkAnswer _>>=_
-  check-bad n o (ok c) h = let y : _≡_ {A = ℕ} 0 1 = cc in absurd (omega arith)
-  check-bad n o (refuse e) h = let x : n ≡ e .number = cc in let y : o ≡ e .offset = cc in rw (x, y)
+pub compiling-first : (m : ℕ) (p : List ℕ) (k : ℕ) (t : Compiled) → Compiling m p k t 0 0 0 0 t
+compiling-first m p k t =
+    let e : k - 0 ≡ k = omega arith in
+    record { few = omega arith; running = running-first p; rows = omega arith; operands = omega arith; rest = λ r new h. rw e at h }
 
--- x is what reading a block's part of the sheet answers
-module _ {p : List ℕ} {k i start next : ℕ} (w : Stands p k i start next) (m : ℕ) (x : Reading)
-    (r : x ≡ blockReading (blockRead m (lent p (codeAt k + start) (codeAt k + next)))) where
-  part-read : x ≡ blockReading (readBlock m (codeOf p i))
-  part-read = r ∙ ap blockReading (rw (part-is w) (block-read m (codeOf p i) (part-short w)))
+-- A block's answer, from the reader's.
+block-ok : (m : ℕ) (s : List ℕ) (at : ℕ) (c : Cmd) → blockRead m s ≡ upTo at c → readBlock m s ≡ ok c
+unfolding blockRead _>>=_
+block-ok m s at c h = go (readBlock m s) h
+  where
+    go : (r : Result Fault Cmd) → (r >>= λ x. upTo (length s) x) ≡ upTo at c → r ≡ ok c
+    go (ok x) e =
+        let i : _≡_ {A = Read Cmd} (record { tree = x; next = length s }) (record { tree = c; next = at }) = cc in
+        ap (λ (y : Read Cmd). ok (y .tree)) i
+    go (refuse f) e = let z : _≡_ {A = ℕ} 0 1 = cc in absurd (omega arith)
 
-  pub block-fine : (z : ℕ) → x ≡ End z → unplaced 0 ≡ checkAnswer (blockAt m p i)
-  unfolding blockAt
-  block-fine z h = check-fine i _ z (readBlock m (codeOf p i)) (sym h ∙ part-read)
+block-refused : (m : ℕ) (s : List ℕ) (f : Fault) → blockRead m s ≡ refuse f → readBlock m s ≡ refuse f
+unfolding blockRead _>>=_
+block-refused m s f h = go (readBlock m s) h
+  where
+    go : (r : Result Fault Cmd) → (r >>= λ x. upTo (length s) x) ≡ refuse f → r ≡ refuse f
+    go (ok x) e = let z : _≡_ {A = ℕ} 0 1 = cc in absurd (omega arith)
+    go (refuse g) e = let i : g ≡ f = cc in rw i
 
-  pub block-bad : (n o : ℕ) → x ≡ Refused n o
-      → _≡_ {A = Answer} (record { number = n; block = i; offset = o; steps = 0 }) (checkAnswer (blockAt m p i))
-  unfolding blockAt
-  block-bad n o h = check-bad i _ n o (readBlock m (codeOf p i)) (sym h ∙ part-read)
+-- The blocks from the i-th on, by the first of them.
+module _ (m : ℕ) (p : List ℕ) where
+  from-none : (n i : ℕ) → n ≡ 0 → blocksFrom m p n i ≡ ok []
+  unfolding blocksFrom
+  from-none n i h = rw h
 
--- The blocks from the i-th on.
-check-map : {A B : Type 0} (f : A → B) (r : Result Answer A) → checkAnswer (r >>= λ a. ok (f a)) ≡ checkAnswer r
-unfolding checkAnswer _>>=_
-check-map f (ok a) = refl
-check-map f (refuse e) = refl
+  from-refused : (n i e o : ℕ) → 0 < n → readBlock m (codeOf p i) ≡ refuse (faultAt e o)
+      → blocksFrom m p n i ≡ refuse (record { number = e; block = i; offset = o; steps = 0 })
+  unfolding blocksFrom blockAt refusedAs _>>=_
+  from-refused zero i e o l h = absurd (omega arith)
+  from-refused (suc n) i e o l h = rw h
 
-module _ (m : ℕ) (p : List ℕ) (i : ℕ) where
-  -- a block's refusal is a number that is not 0
-  numbered : Post Any (λ (e : Answer). e .number ≡ 0 → ⊥) (blockAt m p i)
-  unfolding blockAt
-  numbered =
-      post-bind Any _ _ _ _
-      (post-refused-as _ _ _ _ (post-map _ _ _ _ _ (block-laid m (codeOf p i)) (λ c h. tt) (λ e h z. omega (arith, h .number))))
-      (λ c h. post-ok _ _ _ tt)
+  from-read : (n n′ i : ℕ) (c : Cmd) → n ≡ suc n′ → readBlock m (codeOf p i) ≡ ok c
+      → blocksFrom m p n i ≡ (blocksFrom m p n′ (i + 1) >>= λ bs. ok (record { header = headerAt p i; command = c } ∷ bs))
+  unfolding blocksFrom blockAt refusedAs _>>=_
+  from-read n n′ i c l h = rw (l, h)
 
-  pub from-none : (n : ℕ) → n ≡ 0 → unplaced 0 ≡ checkAnswer (blocksFrom m p n i)
-  unfolding blocksFrom checkAnswer
-  from-none n h = rw h
+-- A block's rows and operands, then those of the blocks after it.
+module _ (row operand row′ operand′ : ℕ) (b : Block) (bs : List Block) (old mid new : Compiled) (w : Emitted blockEmits (b .command) row operand row′ operand′ old mid)
+    (f : new ≡ filled (blocksRows bs row′ operand′) (blocksExprs bs) row′ operand′ mid) where
+  abbrev own : List (List ℕ)
+  own = rowsOf (b .command) 0 row operand
 
-  pub from-next : (n n′ : ℕ) → n ≡ suc n′ → checkAnswer (blockAt m p i) .number ≡ 0
-      → checkAnswer (blocksFrom m p n i) ≡ checkAnswer (blocksFrom m p n′ (i + 1))
-  unfolding blocksFrom checkAnswer Post _>>=_
-  from-next n n′ h w = rw h (go (blockAt m p i) numbered w)
-    where
-      go : (r : Result Answer Block) → Post Any (λ (e : Answer). e .number ≡ 0 → ⊥) r → checkAnswer r .number ≡ 0
-          → checkAnswer (r >>= λ b. blocksFrom m p n′ (i + 1) >>= λ bs. ok (b ∷ bs)) ≡ checkAnswer (blocksFrom m p n′ (i + 1))
-      go (ok b) q z = check-map (λ bs. b ∷ bs) (blocksFrom m p n′ (i + 1))
-      go (refuse e) q z = absurd (q z)
+  block-filled : new ≡ filled (blocksRows (b ∷ bs) row operand) (blocksExprs (b ∷ bs)) row operand old
+  unfolding blocksRows blocksExprs
+  block-filled =
+      let e : row′ ≡ row + size (b .command) + 1 = omega (arith, w .rows, length-append own (endRow ∷ []), rows-length (b .command) 0 row operand) in
+      f
+      ∙ ap (filled (blocksRows bs row′ operand′) (blocksExprs bs) row′ operand′) (w .tables)
+      ∙ filled-on (own ++ (endRow ∷ [])) (blocksRows bs row′ operand′) (exprsOf (b .command)) (blocksExprs bs) old row row′ operand operand′ (w .rows) (w .operands)
+      ∙ rw (append-assoc own (endRow ∷ []) (blocksRows bs row′ operand′), e, w .operands)
 
-  pub from-stop : (n : ℕ) → 0 < n → (checkAnswer (blockAt m p i) .number ≡ 0 → ⊥)
-      → checkAnswer (blocksFrom m p n i) ≡ checkAnswer (blockAt m p i)
-  unfolding blocksFrom checkAnswer unplaced _>>=_
-  from-stop zero h w = absurd (omega arith)
-  from-stop (suc n) h w = go (blockAt m p i) w
-    where
-      go : (r : Result Answer Block) → (checkAnswer r .number ≡ 0 → ⊥)
-          → checkAnswer (r >>= λ b. blocksFrom m p n (i + 1) >>= λ bs. ok (b ∷ bs)) ≡ checkAnswer r
-      go (ok b) q = absurd (q refl)
-      go (refuse e) q = refl
+leaves-cons : (p : List ℕ) (row operand row′ operand′ : ℕ) (b : Block) (q : Result Answer (List Block)) (old mid new : Compiled) (r : Answer)
+    → Emitted blockEmits (b .command) row operand row′ operand′ old mid → row′ ≤ rowsIn (cOf p) + kOf p → operand′ ≤ operandsIn (cOf p)
+    → Leaves p row′ operand′ q mid new r → Leaves p row operand (q >>= λ bs. ok (b ∷ bs)) old new r
+unfolding BlocksFilled checkAnswer _>>=_
+leaves-cons p row operand row′ operand′ b (ok bs) old mid new r w i j k =
+    record { same = k .same; filled = block-filled row operand row′ operand′ b bs old mid new w (k .filled) }
+leaves-cons p row operand row′ operand′ b (refuse a) old mid new r w i j k =
+    record { same = k .same; filled = kept-on (emitted-kept blockEmits (b .command) row operand row′ operand′ old mid w _ _ i j) (k .filled) }
 
--- What checking a sheet answers that gives k blocks and c bytes of code, by the first test that fails.
-pub sheet-short : (n m : ℕ) (p : List ℕ) → length p < sizesWidth → unplaced 6 ≡ checkAnswer (programmeSheet n m p)
-unfolding programmeSheet require checkAnswer
-sheet-short n m p h = rw (lt-leb _ _ h)
+-- what all blocks leave is what compiling them says
+leaves-all : (m : ℕ) (p : List ℕ) (k : ℕ) (old new : Compiled) (r : Answer) → Leaves p 0 0 (blocksFrom m p k 0) old new r → CompilesTo p (blocksFrom m p k 0) old new r
+unfolding BlocksFilled Compiles compiled Post
+leaves-all m p k old new r h = (h .same, go (blocksFrom m p k 0) (blocks-refuse m p k 0) (h .filled))
+  where
+    go : (q : Result Answer (List Block)) → Refuses (λ (a : Answer). 9 ≤ a .number) q → BlocksFilled p 0 0 q old new → Compiles p q old new
+    go (ok bs) n f = f
+    go (refuse a) n f = (λ l. absurd (omega arith), f)
 
-module _ (n m : ℕ) (p : List ℕ) (k c : ℕ) (ek : k ≡ kOf p) (ec : c ≡ cOf p) (a : sizesWidth ≤ length p) where
-  pub sheet-many : mostBlocks < k → unplaced 7 ≡ checkAnswer (programmeSheet n m p)
-  unfolding programmeSheet require checkAnswer _and_
-  sheet-many h = rw (← ek, le-leb _ _ a, lt-leb _ _ h)
+-- Block i, whose code is lent from the sheet.
+module _ {m : ℕ} {p : List ℕ} {k : ℕ} {t₀ : Compiled} {i start row operand : ℕ} {t : Compiled} (w : Compiling m p k t₀ i start row operand t) where
+  -- none is left
+  pub compiling-done : k ≤ i → CompilesTo p (blocksFrom m p k 0) t₀ t (unplaced 0)
+  unfolding BlocksFilled checkAnswer filled blocksRows blocksExprs operandsOf payloadsOf
+  compiling-done l =
+      leaves-all m p k t₀ t (unplaced 0) (w .rest (unplaced 0) t (rw (from-none m p (k - i) i (omega arith)) (record { same = refl; filled = refl })))
 
-  pub sheet-large : k ≤ mostBlocks → mostCode < c → unplaced 7 ≡ checkAnswer (programmeSheet n m p)
-  unfolding programmeSheet require checkAnswer _and_
-  sheet-large f h = rw (← ek, ← ec, le-leb _ _ a, le-leb _ _ f, lt-leb _ _ h)
+  module _ {next : ℕ} (s : Stands p k i start next) where
+    abbrev code : List ℕ
+    code = lent p (codeAt k + start) (codeAt k + next)
 
-  pub sheet-size : k ≤ mostBlocks → c ≤ mostCode → (length p ≡ codeAt k + c → ⊥) → unplaced 6 ≡ checkAnswer (programmeSheet n m p)
-  unfolding programmeSheet require checkAnswer _and_
-  sheet-size f g h = rw (← ek, ← ec, le-leb _ _ a, le-leb _ _ f, le-leb _ _ g, ne-eqb _ _ h)
+    code-length : start + length code ≤ next
+    code-length = rw (part-is s) (part-length s)
 
--- the sizes are in limits, and the sheet is as long as they say
-pub record Sized (p : List ℕ) (k c : ℕ) : Type 0 where
-  pub blocks : k ≡ kOf p
-  pub code : c ≡ cOf p
-  pub few : k ≤ mostBlocks
-  pub small : c ≤ mostCode
-  pub size : length p ≡ codeAt k + c
+    pub can-compile : CanRead code (spotAt 0 row operand) mostDeep
+    can-compile =
+        let l = code-length in
+        let e = end-small s in
+        let b = s .below in
+        record {
+          short = omega arith;
+          inside = omega arith;
+          rows = omega (arith, w .rows, s .good .few);
+          operands = omega (arith, w .operands);
+          level = omega arith;
+        }
 
-module _ {p : List ℕ} {k c : ℕ} (w : Sized p k c) (n m : ℕ) where
-  past-sizes : checkAnswer (programmeSheet n m p) ≡ checkAnswer (
-      require (every k (λ i. headerGood n (headerAt p i))) (unplaced 8) (
-      require (eqb (startOf p k) c) (unplaced 6) (
-      blocksFrom m p k 0)))
-  unfolding programmeSheet require _and_
-  past-sizes =
-      let a : sizesWidth ≤ length p = omega (arith, w .size) in
-      rw (← w .blocks, ← w .code, le-leb _ _ a, le-leb _ _ (w .few), le-leb _ _ (w .small), eq-eqb _ _ (w .size))
+    block-compiled : (row′ operand′ : ℕ) (c : Cmd) (mid : Compiled) → readBlock m code ≡ ok c → Emitted blockEmits c row operand row′ operand′ t mid
+        → Compiling m p k t₀ (i + 1) next row′ operand′ mid
+    block-compiled row′ operand′ c mid h q =
+        let v = post-at _ _ _ c (block-spans m code) h in
+        let a = length-append (rowsOf c 0 row operand) (endRow ∷ []) in
+        let n = rows-length c 0 row operand in
+        let l = code-length in
+        let e = end-within s in
+        let b = s .below in
+        let g = s .good .blocks in
+        let u : guardWidth * row′ ≤ 2 * next + guardWidth * (i + 1) = omega (arith, q .rows, v .rows, w .rows) in
+        let o : exprWidth * operand′ ≤ next = omega (arith, q .operands, v .operands, w .operands) in
+        record {
+          few = omega arith;
+          running = s .to;
+          rows = u;
+          operands = o;
+          rest = λ r new f. w .rest r new
+              (rw (from-read m p (k - i) (k - (i + 1)) i c (omega arith) (rw (part-is s) at h))
+              (leaves-cons p row operand row′ operand′ (record { header = headerAt p i; command = c }) (blocksFrom m p (k - (i + 1)) (i + 1)) t mid new r q (omega arith) (omega arith) f));
+        }
 
-  pub sheet-header : every k (λ i. headerGood n (headerAt p i)) ≡ false → unplaced 8 ≡ checkAnswer (programmeSheet n m p)
-  unfolding require checkAnswer
-  sheet-header h = rw (past-sizes, h)
+    module _ (x : Reading) (mid : Compiled) (y : BlockReads m code row operand t mid x) where
+      pub compiling-refused : (n o : ℕ) → x ≡ Refused n o → CompilesTo p (blocksFrom m p k 0) t₀ mid (record { number = n; block = i; offset = o; steps = 0 })
+      unfolding BlocksFilled checkAnswer
+      compiling-refused n o h =
+          let l = code-length in
+          let e = end-within s in
+          let b = s .below in
+          let g = s .good .blocks in
+          let q = refused-kept blockEmits _ row operand t mid (blockRead m code) x y n o h (rowsIn (cOf p) + kOf p) (operandsIn (cOf p))
+          (omega (arith, w .rows)) (omega (arith, w .operands)) in
+          let z = block-refused m code (faultAt n o) (refused-is blockEmits _ row operand t mid (blockRead m code) x y n o h) in
+          leaves-all m p k t₀ mid _ (w .rest _ mid
+          (rw (from-refused m p (k - i) i n o (omega arith) (rw (part-is s) at z)) (record { same = refl; filled = q })))
 
-  module _ (b : every k (λ i. headerGood n (headerAt p i)) ≡ true) where
-    pub sheet-sum : (startOf p k ≡ c → ⊥) → unplaced 6 ≡ checkAnswer (programmeSheet n m p)
-    unfolding require checkAnswer
-    sheet-sum h = rw (past-sizes, b, ne-eqb _ _ h)
-
-    pub sheet-blocks : startOf p k ≡ c → checkAnswer (blocksFrom m p k 0) ≡ checkAnswer (programmeSheet n m p)
-    unfolding require
-    sheet-blocks h = rw (past-sizes, b, eq-eqb _ _ h)
+      pub compiling-next : (at row′ operand′ : ℕ) → x ≡ Done at row′ operand′ → Compiling m p k t₀ (i + 1) next row′ operand′ mid
+      compiling-next at row′ operand′ h =
+          let z = ended blockEmits _ row operand t mid (blockRead m code) x y at row′ operand′ h in
+          block-compiled row′ operand′ (z .tree) mid (block-ok m code at (z .tree) (z .is)) (z .emitted)

@@ -13,7 +13,7 @@ module _ (P : Value → Type 0) (all : (v : Value) → P v) where
     unfolding Literals LiteralsBody LiteralsAll
 
     pub literals-all : (c : Cmd) → Literals P c
-    literals-all (cmd at end b) = body-all b
+    literals-all (cmd at b) = body-all b
 
     body-all : (b : Body) → LiteralsBody P b
     body-all skip = tt
@@ -37,7 +37,7 @@ module _ (P Q R : Value → Type 0) (join : (v : Value) → P v → Q v → R v)
     unfolding Literals LiteralsBody LiteralsAll
 
     pub literals-join : (c : Cmd) → Literals P c → Literals Q c → Literals R c
-    literals-join (cmd at end b) p q = body-join b p q
+    literals-join (cmd at b) p q = body-join b p q
 
     body-join : (b : Body) → LiteralsBody P b → LiteralsBody Q b → LiteralsBody R b
     body-join skip p q = tt

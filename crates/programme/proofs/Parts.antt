@@ -1,103 +1,123 @@
 -- A part that was read, and what is read after it. Assumes nothing.
-use Prim.Native.Nat.{ℕ, _≤_}
+use Prim.Native.Nat.{ℕ, _+_, _≤_}
 use mathlib.Core.Path.{_≡_, refl, sym, _∙_}
-use mathlib.Core.List.{List}
 use native.Mathlib.Omega.{arith}
+use lib.ListN.{length}
 use Rattle.store.specs.Result.{Result, ok, refuse, _>>=_}
-use Rattle.programme.specs.declared.Reading.{Reading}
-use Rattle.programme.specs.declared.Reading.the-variants.{End, Refused}
+use Rattle.programme.specs.declared.reader.Reading.{Reading}
+use Rattle.programme.specs.declared.reader.Reading.the-variants.{Done, Refused}
 use Rattle.programme.specs.Code.{Fault, Read, upTo}
-use Rattle.programme.specs.Reading.{readingOf, Marked, Answers, Reads}
+use Rattle.programme.specs.Rows.{Compiled, filled, Kept}
+use Rattle.programme.specs.Reading.{Emits, Limit, readingOf, Filled, Reads}
+use Rattle.programme.proofs.Filled.{kept-on, kept-later, filled-kept}
 
--- what ends was read, and what is refused has that fault
-pub record Ended {A : Type 0} (p : Result Fault (Read A)) (e : ℕ) : Type 0 where
+-- a stands in the tables from `row` and `operand` on, and the next ones are row′ and operand′
+pub record Emitted {A : Type 0} (e : Emits A) (a : A) (row operand row′ operand′ : ℕ) (old new : Compiled) : Type 0 where
+  pub rows : row′ ≡ row + length (e .rows a row operand)
+  pub operands : operand′ ≡ operand + length (e .exprs a)
+  pub tables : new ≡ filled (e .rows a row operand) (e .exprs a) row operand old
+
+-- p was read up to `at`
+pub record Ended {A : Type 0} (e : Emits A) (p : Result Fault (Read A)) (row operand at row′ operand′ : ℕ) (old new : Compiled) : Type 0 where
   pub tree : A
-  pub is : p ≡ upTo e tree
+  pub is : p ≡ upTo at tree
+  pub emitted : Emitted e tree row operand row′ operand′ old new
 
-module _ {A : Type 0} where
-  pub ended : (p : Result Fault (Read A)) (e : ℕ) → End e ≡ readingOf p → Ended p e
+-- what stays past it
+pub emitted-kept : {A : Type 0} (e : Emits A) (a : A) (row operand row′ operand′ : ℕ) (old new : Compiled) → Emitted e a row operand row′ operand′ old new
+    → (i j : ℕ) → row′ ≤ i → operand′ ≤ j → Kept i j old new
+emitted-kept e a row operand row′ operand′ old new w i j h k =
+    rw (w .tables)
+    (filled-kept (e .rows a row operand) (e .exprs a) old row operand i j (omega (arith, w .rows)) (omega (arith, w .operands)))
+
+abbrev pub faultAt : ℕ → ℕ → Fault
+faultAt number offset = record { number = number; offset = offset }
+
+module _ {A : Type 0} (e : Emits A) (limit : Limit) (row operand : ℕ) (old new : Compiled) where
+  -- an end, ..
+  pub finished : (p : Result Fault (Read A)) (at row′ operand′ : ℕ) (a : A) → p ≡ upTo at a → Emitted e a row operand row′ operand′ old new
+      → Reads e p limit row operand old new (Done at row′ operand′)
+  unfolding readingOf Filled
+  finished p at row′ operand′ a i h = rw i (record { same = rw (h .rows, h .operands); filled = h .tables })
+
+  -- .. and a refusal
+  pub turned : (p : Result Fault (Read A)) (n o : ℕ) → p ≡ refuse (faultAt n o) → Kept (limit .rows) (limit .operands) old new
+      → Reads e p limit row operand old new (Refused n o)
+  unfolding readingOf Filled
+  turned p n o i k = rw i (record { same = refl; filled = k })
+
+  done : (p : Result Fault (Read A)) (at row′ operand′ : ℕ) → Done at row′ operand′ ≡ readingOf e row operand p
+      → Filled e limit row operand p old new → Ended e p row operand at row′ operand′ old new
+  unfolding readingOf Filled
+  done (ok x) at row′ operand′ h f =
+      let i : at ≡ x .next = cc in record { tree = x .tree; is = rw i; emitted = record { rows = cc; operands = cc; tables = f } }
+  done (refuse g) at row′ operand′ h f = let z : _≡_ {A = ℕ} 0 1 = cc in absurd (omega arith)
+
+  faulty : (p : Result Fault (Read A)) (n o : ℕ) → Refused n o ≡ readingOf e row operand p → p ≡ refuse (faultAt n o)
   unfolding readingOf
-  ended (ok a) e h = let i : e ≡ a .next = cc in record { tree = a .tree; is = rw i }
-  ended (refuse f) e h = let z : _≡_ {A = ℕ} 0 1 = cc in absurd (omega arith)
+  faulty (ok x) n o h = let z : _≡_ {A = ℕ} 0 1 = cc in absurd (omega arith)
+  faulty (refuse g) n o h = let i : n ≡ g .number = cc in let j : o ≡ g .offset = cc in rw (i, j)
 
-  pub faulty : (p : Result Fault (Read A)) (n o : ℕ) → Refused n o ≡ readingOf p → p ≡ refuse (record { number = n; offset = o })
-  unfolding readingOf
-  faulty (ok a) n o h = let z : _≡_ {A = ℕ} 0 1 = cc in absurd (omega arith)
-  faulty (refuse f) n o h = let i : n ≡ f .number = cc in let j : o ≡ f .offset = cc in rw (i, j)
+  module _ (p : Result Fault (Read A)) (x : Reading) (y : Reads e p limit row operand old new x) where
+    pub ended : (at row′ operand′ : ℕ) → x ≡ Done at row′ operand′ → Ended e p row operand at row′ operand′ old new
+    ended at row′ operand′ h = done p at row′ operand′ (sym h ∙ y .same) (y .filled)
 
-  -- a reading that leaves the side table alone
-  pub kept : (p : Result Fault (Read A)) (n : ℕ) (t : List ℕ) (r : Reading) → Answers p n r → Reads (λ a l. l) p n t t r
-  unfolding Marked
-  kept (ok a) n t r h = record { same = h .same; within = h .within; marked = refl }
-  kept (refuse f) n t r h = record { same = h .same; within = h .within; marked = tt }
+    pub refused-is : (n o : ℕ) → x ≡ Refused n o → p ≡ refuse (faultAt n o)
+    refused-is n o h = faulty p n o (sym h ∙ y .same)
 
-  -- a refusal
-  pub turned : (mark : A → List ℕ → List ℕ) (n : ℕ) (old new : List ℕ) (i o : ℕ) → o ≤ n
-      → Reads mark (refuse (record { number = i; offset = o })) n old new (Refused i o)
-  unfolding Marked readingOf
-  turned mark n old new i o h = record { same = refl; within = h; marked = tt }
+    -- what stays after a part that ended, ..
+    pub done-kept : (at row′ operand′ : ℕ) → x ≡ Done at row′ operand′ → (i j : ℕ) → row′ ≤ i → operand′ ≤ j → Kept i j old new
+    done-kept at row′ operand′ h i j k l =
+        let z = ended at row′ operand′ h in emitted-kept e (z .tree) row operand row′ operand′ old new (z .emitted) i j k l
 
-  -- an end is within the code
-  pub end-within : (mark : A → List ℕ → List ℕ) (n : ℕ) (p : Result Fault (Read A)) (old new : List ℕ) (x : Reading) (e : ℕ)
-      → Reads mark p n old new x → x ≡ End e → e ≤ n
-  end-within mark n p old new x e y h = rw h at (y .within)
+    -- .. and after one that was refused
+    pub refused-kept : (n o : ℕ) → x ≡ Refused n o → (i j : ℕ) → limit .rows ≤ i → limit .operands ≤ j → Kept i j old new
+    unfolding Filled
+    refused-kept n o h i j k l = kept-later i j k l (rw (refused-is n o h) at (y .filled))
 
-module _ {A B : Type 0} (in-part : A → List ℕ → List ℕ) (in-whole : B → List ℕ → List ℕ) (n : ℕ)
-    (p : Result Fault (Read A)) (k : Read A → Result Fault (Read B)) where
+-- Two parts.
+module _ {A B : Type 0} (e : Emits A) (w : Emits B) (p : Result Fault (Read A)) (k : Read A → Result Fault (Read B)) (limit limit′ : Limit)
+    (row operand row′ operand′ : ℕ) (old mid old′ new : Compiled) (x : Reading) (y : Reads e p limit row operand old mid x) where
   -- the part ended, and the rest was read
-  pub went : (x : Reading) (e : ℕ) (r : Reading) (old mid new : List ℕ) → Reads in-part p n old mid x → x ≡ End e
-      → ((a : A) → mid ≡ in-part a old → Reads in-whole (k (record { tree = a; next = e })) n old new r)
-      → Reads in-whole (p >>= k) n old new r
-  unfolding Marked _>>=_
-  went x e r old mid new y h f =
-      let z = ended p e (sym h ∙ y .same) in
-      rw (z .is) (f (z .tree) (rw (z .is) at (y .marked)))
+  pub went : (at next next′ : ℕ) (r : Reading) → x ≡ Done at next next′
+      → ((a : A) → Emitted e a row operand next next′ old mid → Reads w (k (record { tree = a; next = at })) limit′ row′ operand′ old′ new r)
+      → Reads w (p >>= k) limit′ row′ operand′ old′ new r
+  unfolding _>>=_
+  went at next next′ r h f =
+      let z = ended e limit row operand old mid p x y at next next′ h in
+      rw (z .is) (f (z .tree) (z .emitted))
 
   -- the part was refused
-  pub stopped : (x : Reading) (i o : ℕ) (old mid new : List ℕ) → Reads in-part p n old mid x → x ≡ Refused i o
-      → Reads in-whole (p >>= k) n old new (Refused i o)
+  pub stopped : (n o : ℕ) → x ≡ Refused n o → Kept (limit′ .rows) (limit′ .operands) old′ new
+      → Reads w (p >>= k) limit′ row′ operand′ old′ new (Refused n o)
   unfolding _>>=_
-  stopped x i o old mid new y h = rw (faulty p i o (sym h ∙ y .same)) (turned in-whole n old new i o (rw h at (y .within)))
+  stopped n o h q = turned w limit′ row′ operand′ old′ new (p >>= k) n o (rw (refused-is e limit row operand old mid p x y n o h)) q
 
--- the same where the part leaves the side table alone
-module _ {A B : Type 0} (in-whole : B → List ℕ → List ℕ) (n : ℕ) (p : Result Fault (Read A)) (k : Read A → Result Fault (Read B)) where
-  pub judged : (x : Reading) (e : ℕ) (r : Reading) (old new : List ℕ) → Answers p n x → x ≡ End e
-      → ((a : A) → Reads in-whole (k (record { tree = a; next = e })) n old new r) → Reads in-whole (p >>= k) n old new r
-  judged x e r old new y h f = went (λ a l. l) in-whole n p k x e r old old new (kept p n old x y) h (λ a v. f a)
+-- a part whose rows and operands are the whole's
+pub made : {A B : Type 0} (e : Emits A) (w : Emits B) (limit : Limit) (row operand : ℕ) (old new : Compiled) (p : Result Fault (Read A)) (f : Read A → B) (r : Reading)
+    → ((a : Read A) → e .rows (a .tree) row operand ≡ w .rows (f a) row operand) → ((a : Read A) → e .exprs (a .tree) ≡ w .exprs (f a))
+    → Reads e p limit row operand old new r → Reads w (p >>= λ a. upTo (a .next) (f a)) limit row operand old new r
+unfolding readingOf Filled _>>=_
+made e w limit row operand old new (ok x) f r p q h =
+    record { same = rw (← p x, ← q x) (h .same); filled = rw (← p x, ← q x) (h .filled) }
+made e w limit row operand old new (refuse g) f r p q h = record { same = h .same; filled = h .filled }
 
-  pub misjudged : (x : Reading) (i o : ℕ) (old new : List ℕ) → Answers p n x → x ≡ Refused i o
-      → Reads in-whole (p >>= k) n old new (Refused i o)
-  misjudged x i o old new y h = stopped (λ a l. l) in-whole n p k x i o old old new (kept p n old x y) h
+-- a wider limit
+pub wider : {A : Type 0} (e : Emits A) (limit limit′ : Limit) (row operand : ℕ) (old new : Compiled) (p : Result Fault (Read A)) (r : Reading)
+    → limit .rows ≤ limit′ .rows → limit .operands ≤ limit′ .operands → Reads e p limit row operand old new r → Reads e p limit′ row operand old new r
+unfolding readingOf Filled
+wider e limit limit′ row operand old new (ok x) r i j h = record { same = h .same; filled = h .filled }
+wider e limit limit′ row operand old new (refuse g) r i j h = record { same = h .same; filled = kept-later _ _ i j (h .filled) }
 
--- a last part, after which the tree is made
-pub made : {A B : Type 0} (in-part : A → List ℕ → List ℕ) (in-whole : B → List ℕ → List ℕ) (n : ℕ)
-    (p : Result Fault (Read A)) (f : Read A → B) (r : Reading) (old mid new : List ℕ) → ((a : Read A) → in-part (a .tree) mid ≡ in-whole (f a) old) → Reads in-part p n mid new r
-    → Reads in-whole (p >>= λ a. upTo (a .next) (f a)) n old new r
-unfolding Marked readingOf _>>=_
-made in-part in-whole n (ok a) f r old mid new w h = record { same = h .same; within = h .within; marked = h .marked ∙ w a }
-made in-part in-whole n (refuse e) f r old mid new w h = record { same = h .same; within = h .within; marked = tt }
-
--- without the side table
-module _ {A B : Type 0} (n : ℕ) (p : Result Fault (Read A)) (k : Read A → Result Fault (Read B)) where
-  pub answered : (x : Reading) (e : ℕ) (r : Reading) → Answers p n x → x ≡ End e
-      → ((a : A) → Answers (k (record { tree = a; next = e })) n r)
-      → Answers (p >>= k) n r
-  unfolding _>>=_
-  answered x e r y h f = let z = ended p e (sym h ∙ y .same) in rw (z .is) (f (z .tree))
-
-  pub unanswered : (x : Reading) (i o : ℕ) → Answers p n x → x ≡ Refused i o → Answers (p >>= k) n (Refused i o)
-  unfolding _>>=_ readingOf
-  unanswered x i o y h = rw (faulty p i o (sym h ∙ y .same)) (record { same = refl; within = rw h at (y .within) })
-
-pub built : {A B : Type 0} (n : ℕ) (p : Result Fault (Read A)) (f : Read A → B) (r : Reading) → Answers p n r
-    → Answers (p >>= λ a. upTo (a .next) (f a)) n r
-unfolding readingOf _>>=_
-built n (ok a) f r h = record { same = h .same; within = h .within }
-built n (refuse e) f r h = record { same = h .same; within = h .within }
-
--- what holds of the side table after each tree holds after two parts
-pub marked-through : {A B : Type 0} (mark : B → List ℕ → List ℕ) (old new : List ℕ)
-    (p : Result Fault (Read A)) (k : Read A → Result Fault (Read B)) → ((a : Read A) → Marked mark (k a) old new) → Marked mark (p >>= k) old new
-unfolding Marked _>>=_
-marked-through mark old new (ok a) k f = f a
-marked-through mark old new (refuse e) k f = tt
+-- the last part, after which the whole is made, with what was put in before
+pub followed : {A B : Type 0} (e : Emits A) (w : Emits B) (join : A → B) (limit limit₁ : Limit) (row operand row₁ operand₁ : ℕ) (old mid new : Compiled)
+    (q : Result Fault (Read A)) (r : Reading)
+    → ((a : A) (row′ operand′ : ℕ) → Emitted e a row₁ operand₁ row′ operand′ mid new → Emitted w (join a) row operand row′ operand′ old new)
+    → Kept (limit .rows) (limit .operands) old mid → limit₁ .rows ≤ limit .rows → limit₁ .operands ≤ limit .operands
+    → Reads e q limit₁ row₁ operand₁ mid new r → Reads w (q >>= λ a. upTo (a .next) (join (a .tree))) limit row operand old new r
+unfolding readingOf Filled _>>=_
+followed e w join limit limit₁ row operand row₁ operand₁ old mid new (ok x) r f k i j y =
+    let z = f (x .tree) _ _ (record { rows = refl; operands = refl; tables = y .filled }) in
+    record { same = rw (← z .rows, ← z .operands) (y .same); filled = z .tables }
+followed e w join limit limit₁ row operand row₁ operand₁ old mid new (refuse g) r f k i j y =
+    record { same = y .same; filled = kept-on k (kept-later _ _ i j (y .filled)) }

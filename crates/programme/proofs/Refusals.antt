@@ -1,16 +1,17 @@
--- Every refusal of a programme sheet has a number from 1 on. Assumes nothing.
-use Prim.Native.Nat.{ℕ, zero, suc, _+_}
+-- The numbers of refusals: code's are 9 and 10, and every refusal of a programme sheet has a number from 1 on. Assumes nothing.
+use Prim.Native.Nat.{ℕ, zero, suc, _+_, _≤_}
 use mathlib.Core.List.{List}
 use native.Mathlib.Omega.{arith}
 use Rattle.store.specs.declared.Answer.{Answer}
 use Rattle.store.specs.Result.{Result, unplaced}
-use Rattle.store.proofs.Result.{Refuses, post-refuse, post-refused-as, refuses-ok, refuses-require, refuses-bind, Positive}
+use Rattle.store.proofs.Result.{Refuses, post-refuse, post-map, post-refused-as, refuses-ok, refuses-require, refuses-bind, Positive}
 use Rattle.programme.specs.Syntax.{Expr, Cmd}
 use Rattle.programme.specs.Code.{Fault, Read, readValue, ExprByte, literalByte, readByte, exprByte, exprBy, readExpr, mostReads, CmdByte, skipByte, assignByte, seqByte, ifByte, whileByte, cmdByte, readCmds, readAssign, readSeq, readIf, readWhile, bodyBy, bodyTooDeep, readBody, mostDeep, readBlock}
 use Rattle.programme.specs.Sheet.{kOf, blockAt, blocksFrom, programmeSheet}
 
+-- code is refused by 9 or 10
 abbrev Numbered : Fault → Type 0
-Numbered e = Positive (e .number)
+Numbered e = 9 ≤ e .number
 
 value : (m : ℕ) (s : List ℕ) (at : ℕ) → Refuses Numbered (readValue m s at)
 unfolding readValue
@@ -78,12 +79,15 @@ block m s =
     refuses-bind _ _ _ (refuses-bind _ _ _ (body mostDeep m s 0) (λ b. refuses-ok _ _)) λ c.
     refuses-require _ _ _ _ (omega arith) (refuses-ok _ _)
 
-blocks : (m : ℕ) (p : List ℕ) (n i : ℕ) → Refuses (λ (a : Answer). Positive (a .number)) (blocksFrom m p n i)
-unfolding blocksFrom blockAt
-blocks m p zero i = refuses-ok _ _
-blocks m p (suc n) i =
-    refuses-bind _ _ _ (refuses-bind _ _ _ (post-refused-as _ _ _ _ (block m _)) (λ c. refuses-ok _ _)) λ b.
-    refuses-bind _ _ _ (blocks m p n (i + 1)) (λ bs. refuses-ok _ _)
+pub block-refuses : (m : ℕ) (p : List ℕ) (i : ℕ) → Refuses (λ (a : Answer). 9 ≤ a .number) (blockAt m p i)
+unfolding blockAt
+block-refuses m p i = refuses-bind _ _ _ (post-refused-as _ _ _ _ (block m _)) (λ c. refuses-ok _ _)
+
+pub blocks-refuse : (m : ℕ) (p : List ℕ) (n i : ℕ) → Refuses (λ (a : Answer). 9 ≤ a .number) (blocksFrom m p n i)
+unfolding blocksFrom
+blocks-refuse m p zero i = refuses-ok _ _
+blocks-refuse m p (suc n) i =
+    refuses-bind _ _ _ (block-refuses m p i) λ b. refuses-bind _ _ _ (blocks-refuse m p n (i + 1)) (λ bs. refuses-ok _ _)
 
 pub programme-refuses : (n m : ℕ) (p : List ℕ) → Refuses (λ (a : Answer). Positive (a .number)) (programmeSheet n m p)
 unfolding programmeSheet unplaced
@@ -93,4 +97,4 @@ programme-refuses n m p =
     refuses-require _ _ _ _ (omega arith) (
     refuses-require _ _ _ _ (omega arith) (
     refuses-require _ _ _ _ (omega arith) (
-    blocks m p (kOf p) 0)))))
+    post-map _ _ _ _ _ (blocks-refuse m p (kOf p) 0) (λ bs h. h) (λ a h. omega arith))))))

@@ -13,9 +13,9 @@ use Rattle.lattice.proofs.Tests.{and-l, and-r, every-at}
 use Rattle.store.specs.Result.{ok}
 use Rattle.store.proofs.InTurn.{require-ok}
 use Rattle.store.proofs.Numbers.{number-lt}
-use Rattle.store.specs.Bytes.{numberAt, part, table}
+use Rattle.store.specs.Bytes.{numberAt, table}
 use Rattle.store.specs.Sheet.{sizesWidth}
-use Rattle.programme.specs.Sheet.{Block, mostCode, kOf, cOf, lengthAt, codeAt, startOf, codeOf, headerAt, headerGood, blocksFrom, programmeSheet}
+use Rattle.programme.specs.Sheet.{Block, mostCode, kOf, cOf, lengthAt, codeAt, startOf, codeOf, lent, headerAt, headerGood, blocksFrom, programmeSheet}
 use Rattle.programme.specs.Starts.{codeIn, leftAfter, RunningStart, RunningStarts, ThreeWorked}
 use Rattle.programme.specs.Reading.{GoodLengths, Stands}
 
@@ -106,10 +106,6 @@ pub three-worked : ThreeWorked
 unfolding table startOf leftAfter numberAt
 three-worked = record { starts = refl; codes = refl; leaves = refl }
 
--- what of a sheet is lent from `from` up to `to`
-abbrev pub lent : List ℕ → ℕ → ℕ → List ℕ
-lent p from to = part p from (to - from)
-
 module _ {p : List ℕ} {k i start next : ℕ} (w : Stands p k i start next) where
   -- the next block's start is this one's and its length
   starts-next : start + lengthAt p i ≡ next
@@ -119,8 +115,11 @@ module _ {p : List ℕ} {k i start next : ℕ} (w : Stands p k i start next) whe
   stands-on = omega (arith, starts-next)
 
   -- its end in the code ..
+  pub end-within : next ≤ cOf p
+  end-within = omega (arith, starts-next, start-within p k i (w .below), w .from .sum, w .good .sum)
+
   pub end-small : next ≤ mostCode
-  end-small = omega (arith, starts-next, start-within p k i (w .below), w .from .sum, w .good .sum, w .good .small)
+  end-small = omega (arith, end-within, w .good .small)
 
   -- .. and in the sheet
   pub part-within : codeAt k + next ≤ length p
@@ -131,5 +130,5 @@ module _ {p : List ℕ} {k i start next : ℕ} (w : Stands p k i start next) whe
       let n : codeAt k + next - (codeAt k + start) ≡ lengthAt p i = omega (arith, starts-next) in
       rw (n, w .good .blocks) (ap (take (lengthAt p i)) (sym (drop-drop start (codeAt (kOf p)) p) ∙ w .from .left) ∙ w .from .code)
 
-  pub part-short : length (codeOf p i) ≤ mostCode
-  part-short = omega (arith, starts-next, end-small, length-take (lengthAt p i) (drop (codeAt (kOf p) + startOf p i) p))
+  pub part-length : start + length (codeOf p i) ≤ next
+  part-length = omega (arith, starts-next, length-take (lengthAt p i) (drop (codeAt (kOf p) + startOf p i) p))

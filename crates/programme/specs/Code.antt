@@ -154,7 +154,7 @@ bodyTooDeep unknownByte s at = refuse (illFormed at)
 bodyTooDeep noByte s at = refuse (endsEarly s)
 
 abbrev pub placed : ℕ → Result Fault (Read Body) → Result Fault (Read Cmd)
-placed at r = r >>= λ b. upTo (b .next) (cmd at (b .next) (b .tree))
+placed at r = r >>= λ b. upTo (b .next) (cmd at (b .tree))
 
 -- `deep`: how many levels of commands are still allowed
 unfoldable pub readBody : ℕ → ℕ → List ℕ → ℕ → Result Fault (Read Body)

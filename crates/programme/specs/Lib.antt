@@ -2,4 +2,5 @@ pub mod Syntax
 pub mod Code
 pub mod Sheet
 pub mod Starts
+pub mod Rows
 pub mod Reading

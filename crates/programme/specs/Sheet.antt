@@ -1,5 +1,5 @@
 -- Document 01, "The programme sheet", with refusals 6 to 10. Assumes nothing.
-use Prim.Native.Nat.{ℕ, zero, suc, _+_, _*_, _%_}
+use Prim.Native.Nat.{ℕ, zero, suc, _+_, _-_, _*_, _%_}
 use mathlib.Core.Bool.{Bool}
 use mathlib.Core.List.{List, [], _∷_}
 use lib.ListN.{getD, length}
@@ -55,6 +55,10 @@ startOf p (suc i) = startOf p i + lengthAt p i
 
 abbrev pub codeOf : List ℕ → ℕ → List ℕ
 codeOf p i = part p (codeAt (kOf p) + startOf p i) (lengthAt p i)
+
+-- what of a sheet stands from `from` up to `to`
+abbrev pub lent : List ℕ → ℕ → ℕ → List ℕ
+lent p from to = part p from (to - from)
 
 -- "8 region's principal not below n"
 unfoldable pub headerGood : ℕ → Header → Bool

@@ -1,7 +1,5 @@
 -- Expressions and commands as trees. Assumes nothing.
 use Prim.Native.Nat.{ℕ}
-use mathlib.Core.List.{List}
-use lib.ListN.{set}
 use Rattle.store.specs.declared.Value.{Value}
 
 -- "An expression is 10 and a value .., or 11 (read) and an expression."
@@ -9,11 +7,11 @@ pub data Expr : Type 0 where
   literal : Value → Expr
   read : Expr → Expr
 
--- A command: the offset of its first byte in its block, the offset after its last, and what it does. "20 skip; 21 assignment,
--- target expression then value expression; 22 sequence ..; 23 if, guard, then-part, else-part; 24 while, guard, body"
+-- A command: the offset of its first byte in its block, and what it does. "20 skip; 21 assignment, target expression then value
+-- expression; 22 sequence ..; 23 if, guard, then-part, else-part; 24 while, guard, body"
 mutual
   pub data Cmd : Type 0 where
-    cmd : ℕ → ℕ → Body → Cmd
+    cmd : ℕ → Body → Cmd
 
   pub data Body : Type 0 where
     skip : Body
@@ -26,26 +24,6 @@ mutual
     nil : Cmds
     cons : Cmd → Cmds → Cmds
 
--- the offset after a command's last byte
-unfoldable pub endOf : Cmd → ℕ
-endOf (cmd at end b) = end
-
--- The side table of a block that was read: at each command's offset the offset after it; other entries as they were.
-unfoldable mutual
-  pub marks : Cmd → List ℕ → List ℕ
-  marks (cmd at end b) t = set (marksBody b t) at end
-
-  pub marksBody : Body → List ℕ → List ℕ
-  marksBody skip t = t
-  marksBody (assign x v) t = t
-  marksBody (seq cs) t = marksAll cs t
-  marksBody (if g c d) t = marks d (marks c t)
-  marksBody (while g c) t = marks c t
-
-  pub marksAll : Cmds → List ℕ → List ℕ
-  marksAll nil t = t
-  marksAll (cons c cs) t = marksAll cs (marks c t)
-
 -- P holds of the literal that an expression starts from ..
 unfoldable pub LiteralOf : (Value → Type 0) → Expr → Type 0
 LiteralOf P (literal v) = P v
@@ -54,7 +32,7 @@ LiteralOf P (read e) = LiteralOf P e
 -- .. and of every literal of a command
 unfoldable mutual
   pub Literals : (Value → Type 0) → Cmd → Type 0
-  Literals P (cmd at end b) = LiteralsBody P b
+  Literals P (cmd at b) = LiteralsBody P b
 
   pub LiteralsBody : (Value → Type 0) → Body → Type 0
   LiteralsBody P skip = Unit {0}

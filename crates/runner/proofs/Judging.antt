@@ -9,14 +9,15 @@ use borrow.Author.Tests.{eq-eqb, ne-eqb}
 use Rattle.lattice.specs.Tests.{_and_, _or_, _implies_}
 use Rattle.lattice.specs.Order.{Label, bit}
 use Rattle.lattice.proofs.Bits.{bit-and}
-use Rattle.store.specs.Result.{Result, ok, refuse, _>>=_, require}
+use Rattle.store.specs.Result.{ok, _>>=_, require}
+use Rattle.store.specs.Value.{truth, isWriteView}
 use Rattle.store.specs.Sheet.{ownerOf, mostSlots}
 use Rattle.programme.specs.Syntax.{Expr}
 use Rattle.calculus.specs.Rules.{RuleSet, accessControl, capability, explicitProvenance, fullProvenance, labelsJudged, allAbove}
-use Rattle.calculus.specs.Calculus.{Setting, Store, Labelled, Write, authorised, reliable, eval, judge, permit, assignment}
-use Rattle.runner.specs.Answers.{Got, Ruling, rulingBy, ruling, Making}
-use Rattle.runner.specs.declared.Terms.{Terms}
-use Rattle.runner.specs.Held.{LabelHeld, judgesLabels, judgesBranch, unspent, Serves, ValueHeld, EvaluatedAs, JudgedAs, MadeAs}
+use Rattle.calculus.specs.Calculus.{Setting, Store, Labelled, authorised, reliable, eval, judge, permit, assignment}
+use Rattle.runner.specs.Answers.{Got, Judging, judgingBy, judging, Making}
+use Rattle.runner.specs.declared.rules.Terms.{Terms}
+use Rattle.runner.specs.Held.{LabelHeld, judgesLabels, judgesBranch, Serves, ValueHeld, EvaluatedAs, JudgedAs, MadeAs}
 use Rattle.runner.proofs.Labels.{bit-held, bits-held}
 use Rattle.runner.proofs.Admission.{in-region}
 use Rattle.runner.proofs.Chain.{gave, refused}
@@ -62,16 +63,6 @@ or-true true = refl
 or-true false = refl
 
 module _ (w : Setting) (terms : Terms) (masks : List ℕ) (h : Serves w terms masks) where
-  -- no step is left, one is
-  module _ {A : Type 0} (steps : ℕ) (r : Result ℕ A) where
-    pub spent : steps ≡ terms .budget → unspent w steps r ≡ refuse 17
-    unfolding unspent require
-    spent q = rw (eq-eqb steps (w .budget) (q ∙ h .budget)) refl
-
-    pub unspent-is : (steps ≡ terms .budget → ⊥) → unspent w steps r ≡ r
-    unfolding unspent require
-    unspent-is ne = rw (ne-eqb steps (w .budget) (λ q. ne (q ∙ sym (h .budget)))) refl
-
   -- refusal 16: the block is endorsed, no label is judged, two are, three are
   module _ (i : ℕ) (x y b : Label) where
     pub reliable-endorsed : terms .endorsed ≡ true → true ≡ reliable w i (labelsJudged (w .rules) x y b)
@@ -129,30 +120,30 @@ module _ (w : Setting) (x y : Labelled) (b : Label) (i : ℕ) (q : x .value .pay
 -- a guard: its expression is refused, its kind is wrong, it passes, it fails
 module _ (w : Setting) (s : Store) (g : Expr) where
   pub judge-refused : {n : ℕ} → EvaluatedAs (w .tables .order) (Got.Refused n) (eval w s g)
-      → JudgedAs (w .tables .order) (Ruling.Refused n) (judge w s g)
+      → JudgedAs (w .tables .order) (Judging.Refused n) (judge w s g)
   unfolding judge _>>=_
   judge-refused a = rw (refused a) JudgedAs.refuses
 
-  judged : (k p l : ℕ) (x : Labelled) → eval w s g ≡ ok x → ValueHeld (w .tables .order) x k p l → k ≡ 1
+  judged : (k p l : ℕ) (x : Labelled) → eval w s g ≡ ok x → ValueHeld (w .tables .order) x k p l → k ≡ truth
       → judge w s g ≡ ok (record { passes = eqb p 1; label = x .label })
   unfolding judge _>>=_ require
-  judged k p l x r h q = rw (r, h .kind, eq-eqb k 1 q, h .payload) refl
+  judged k p l x r h q = rw (r, h .kind, eq-eqb k truth q, h .payload) refl
 
   module _ {k p l : ℕ} (a : EvaluatedAs (w .tables .order) (Got.Value k p l) (eval w s g)) where
-    pub judge-kind : (k ≡ 1 → ⊥) → JudgedAs (w .tables .order) (Ruling.Refused 13) (judge w s g)
+    pub judge-kind : (k ≡ truth → ⊥) → JudgedAs (w .tables .order) (Judging.Refused 13) (judge w s g)
     unfolding judge _>>=_ require
-    judge-kind ne = let d = gave a in rw (d .same, d .held .kind, ne-eqb k 1 ne) JudgedAs.refuses
+    judge-kind ne = let d = gave a in rw (d .same, d .held .kind, ne-eqb k truth ne) JudgedAs.refuses
 
     -- it passes or fails by its payload
-    ruled : (b : Bool) → k ≡ 1 → eqb p 1 ≡ b → JudgedAs (w .tables .order) (rulingBy true b (record { refusal = 0; passes = b; label = l })) (judge w s g)
-    unfolding rulingBy
-    ruled true q y =
+    by-payload : (b : Bool) → k ≡ truth → eqb p 1 ≡ b → JudgedAs (w .tables .order) (judgingBy true b (record { refusal = 0; passes = b; label = l })) (judge w s g)
+    unfolding judgingBy
+    by-payload true q y =
         let d = gave a in rw (judged k p l (d .answer) (d .same) (d .held) q) (JudgedAs.passes y (d .held .label))
-    ruled false q y =
+    by-payload false q y =
         let d = gave a in rw (judged k p l (d .answer) (d .same) (d .held) q) (JudgedAs.fails y (d .held .label))
 
-    pub judge-ruled : k ≡ 1 → JudgedAs (w .tables .order) (ruling (record { refusal = 0; passes = eqb p 1; label = l })) (judge w s g)
-    judge-ruled q = ruled (eqb p 1) q refl
+    pub judge-truth : k ≡ truth → JudgedAs (w .tables .order) (judging (record { refusal = 0; passes = eqb p 1; label = l })) (judge w s g)
+    judge-truth q = by-payload (eqb p 1) q refl
 
 -- an assignment: its target is refused, or no write view; its value is refused; it is judged
 module _ (w : Setting) (s : Store) (b : Label) (x y : Expr) where
@@ -161,23 +152,23 @@ module _ (w : Setting) (s : Store) (b : Label) (x y : Expr) where
   unfolding assignment _>>=_
   assign-refused a = rw (refused a) MadeAs.refuses
 
-  targeted : (k p l : ℕ) (z : Labelled) → eval w s x ≡ ok z → ValueHeld (w .tables .order) z k p l → k ≡ 3
-      → assignment w b s x y ≡ (eval w s y >>= permit w b z)
+  targeted : (k p l : ℕ) (z : Labelled) → eval w s x ≡ ok z → ValueHeld (w .tables .order) z k p l
+      → isWriteView (record { kind = k; payload = p }) ≡ true → assignment w b s x y ≡ (eval w s y >>= permit w b z)
   unfolding assignment _>>=_ require
-  targeted k p l z r h q = rw (r, h .kind, eq-eqb k 3 q) refl
+  targeted k p l z r h q = rw (r, h .kind, q) refl
 
   module _ {k p l : ℕ} (a : EvaluatedAs (w .tables .order) (Got.Value k p l) (eval w s x)) where
-    pub assign-kind : (k ≡ 3 → ⊥) → MadeAs (w .tables) (Making.Refused 13) (assignment w b s x y)
+    pub assign-kind : isWriteView (record { kind = k; payload = p }) ≡ false → MadeAs (w .tables) (Making.Refused 13) (assignment w b s x y)
     unfolding assignment _>>=_ require
-    assign-kind ne = let d = gave a in rw (d .same, d .held .kind, ne-eqb k 3 ne) MadeAs.refuses
+    assign-kind q = let d = gave a in rw (d .same, d .held .kind, q) MadeAs.refuses
 
-    pub assign-value-refused : {n : ℕ} → k ≡ 3 → EvaluatedAs (w .tables .order) (Got.Refused n) (eval w s y)
+    pub assign-value-refused : {n : ℕ} → isWriteView (record { kind = k; payload = p }) ≡ true → EvaluatedAs (w .tables .order) (Got.Refused n) (eval w s y)
         → MadeAs (w .tables) (Making.Refused n) (assignment w b s x y)
     unfolding _>>=_
     assign-value-refused q u =
         let d = gave a in rw (targeted k p l (d .answer) (d .same) (d .held) q, refused u) MadeAs.refuses
 
-    pub assign-judged : {i j n : ℕ} (r : Making) → k ≡ 3 → EvaluatedAs (w .tables .order) (Got.Value i j n) (eval w s y)
+    pub assign-judged : {i j n : ℕ} (r : Making) → isWriteView (record { kind = k; payload = p }) ≡ true → EvaluatedAs (w .tables .order) (Got.Value i j n) (eval w s y)
         → ((x′ y′ : Labelled) → x′ .value .payload ≡ p → LabelHeld (w .tables .order) (x′ .label) l
         → ValueHeld (w .tables .order) y′ i j n → MadeAs (w .tables) r (permit w b x′ y′))
         → MadeAs (w .tables) r (assignment w b s x y)

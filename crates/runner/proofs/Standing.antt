@@ -1,212 +1,218 @@
--- A block that was read stands in its code: each part where the tree says, each end in the side table. Assumes nothing.
-use Prim.Native.Nat.{ℕ, zero, suc, _+_, _≤_, _<_}
-use mathlib.Core.Path.{_≡_, refl, sym}
-use mathlib.Core.Bool.{Bool, true, false}
-use mathlib.Core.List.{List}
+-- Lists that stand in the tables, taken apart: rows and the operands of expressions; and where a compiled programme's blocks stand. Assumes
+-- nothing.
+use Prim.Native.Nat.{ℕ, suc, _+_, _<_, _≤_}
+use mathlib.Core.Path.{_≡_, ap, _∙_}
+use mathlib.Core.Bool.{true}
+use mathlib.Core.Logic.{_⊎_}
+use mathlib.Core.List.{List, [], _∷_, _++_}
 use native.Mathlib.Omega.{arith}
-use lib.ListN.{length, getD}
-use lib.Dec.{ltb, leb, eqb}
-use borrow.Author.Tests.{leb-true, eqb-true}
+use lib.ListN.{length, getD, take, drop, length-append, List·getD-append}
+use lib.Seq.{sets, sets-eq, append-snoc, getD-append-add, length-take-le}
 use Rattle.store.specs.declared.Value.{Value}
-use Rattle.store.specs.Result.{Result}
-use Rattle.store.specs.Value.{valueWidth, wellFormed, valueAt}
+use Rattle.store.specs.Value.{wellFormed}
 use Rattle.store.specs.Sheet.{mostSlots}
-use Rattle.store.proofs.Bytes.{formed-more}
-use Rattle.store.proofs.Result.{Post, Any, post-ok, post-refuse, post-map, post-both, post-require, post-bind}
-use Rattle.programme.specs.Syntax.{Expr, Cmd, cmd, Body, seq, Cmds, nil, cons}
-use Rattle.programme.specs.Code.{Fault, Read, readValue, ExprByte, literalByte, readByte, exprByte, exprBy, readExpr, mostReads, CmdByte, skipByte, assignByte, seqByte, ifByte, whileByte, sorted, cmdByte, readCmds, readAssign, readSeq, readIf, readWhile, bodyBy, bodyTooDeep, readBody, readCmd, mostDeep, readBlock}
-use Rattle.programme.proofs.Laid.{Laid, laid-lt, cmd-laid}
-use Rattle.programme.proofs.Held.{Holds, HoldsBody, HoldsAll}
-use Rattle.runner.specs.Layout.{ExprAt, isLiteral, isRead, Head, size, CmdAt, isSkip, isAssign, isSeq, isIf, isWhile, CmdsAt, none, more}
+use Rattle.programme.specs.Syntax.{Expr, literal, read, LiteralOf}
+use Rattle.programme.specs.Code.{mostDeep}
+use Rattle.programme.specs.Rows.{Compiled, assignRow, guardRow, guardKind, jumpRow, endRow, literalOf, operandOf, payloadOf, operandsOf, payloadsOf, exprsOf, size, rowsOf, blocksRows, blocksExprs, filled, compiled, mostRows, mostOperands}
+use Rattle.programme.specs.Sheet.{Block}
+use Rattle.programme.proofs.Filled.{operands-append, payloads-append, operands-length, payloads-length}
+use Rattle.programme.proofs.Rows.{rows-length}
+use Rattle.runner.specs.Running.{kindAt, OperandAt, AssignAt, GuardAt, JumpAt, EndAt, StandsAt, ExprsAt, BlocksAt, AllSound}
 
--- what a byte that was sorted is
-data ExprSorted (b : ℕ) : ExprByte → Type 0 where
-  is10 : b ≡ 0x10 → ExprSorted b literalByte
-  is11 : b ≡ 0x11 → ExprSorted b readByte
-  unknown : ExprSorted b ExprByte.unknownByte
-  nothing : ExprSorted b ExprByte.noByte
+-- what holds of an expression's literal
+literal-is : (P : Value → Type 0) (e : Expr) → LiteralOf P e → P (literalOf e)
+unfolding LiteralOf literalOf
+literal-is P (literal v) h = h
+literal-is P (read e) h = literal-is P e h
 
-expr-sorted : (s : List ℕ) (at : ℕ) → ExprSorted (getD s at 0) (exprByte s at)
-unfolding exprByte
-expr-sorted s at = go (ltb at (length s)) (eqb (getD s at 0) 0x10) refl (eqb (getD s at 0) 0x11) refl
+-- a view names a slot that is held
+abbrev pub Formed : Value → Type 0
+Formed v = wellFormed mostSlots v ≡ true
+
+-- A list that stands in a table: its first entry, the rest, and both parts of two lists one after the other.
+module _ {A : Type 0} (none : A) (table : List A) (i : ℕ) where
+  pub stands-head : (x : A) (xs : List A) → StandsAt none table i (x ∷ xs) → getD table i none ≡ x
+  stands-head x xs h = let e : i ≡ i + 0 = omega arith in ap (λ (k : ℕ). getD table k none) e ∙ h .at 0 (omega arith)
+
+  pub stands-tail : (x : A) (xs : List A) → StandsAt none table i (x ∷ xs) → StandsAt none table (i + 1) xs
+  stands-tail x xs h =
+      record {
+        at = λ j l.
+            let e : i + 1 + j ≡ i + suc j = omega arith in
+            ap (λ (k : ℕ). getD table k none) e ∙ h .at (suc j) (omega arith);
+      }
+
+  pub stands-front : (xs ys : List A) → StandsAt none table i (xs ++ ys) → StandsAt none table i xs
+  stands-front xs ys h =
+      record { at = λ j l. h .at j (omega (arith, length-append xs ys)) ∙ List·getD-append xs ys none j l }
+
+  pub stands-rest : (xs ys : List A) (k : ℕ) → k ≡ i + length xs → StandsAt none table i (xs ++ ys) → StandsAt none table k ys
+  stands-rest xs ys k p h =
+      record {
+        at = λ j l.
+            let e : k + j ≡ i + (length xs + j) = omega arith in
+            ap (λ (n : ℕ). getD table n none) e
+            ∙ h .at (length xs + j) (omega (arith, length-append xs ys))
+            ∙ getD-append-add xs ys j none;
+      }
+
+-- what is put into a table stands there
+pub sets-stand : {A : Type 0} (none : A) (table : List A) (i : ℕ) (xs : List A) → i + length xs ≤ length table → StandsAt none (sets table i xs) i xs
+sets-stand none table i xs h =
+    let l : length (take i table) ≡ i = length-take-le i table (omega arith) in
+    rw (sets-eq xs table i h)
+    (stands-rest none _ 0 (take i table) xs i (omega arith)
+    (stands-front none _ 0 (take i table ++ xs) (drop (i + length xs) table) (all-stands none _)))
   where
-    go : (a b : Bool) → eqb (getD s at 0) 0x10 ≡ b → (c : Bool) → eqb (getD s at 0) 0x11 ≡ c
-        → ExprSorted (getD s at 0) (elim a as (λ _. ExprByte) [ false ↦ ExprByte.noByte | true ↦ elim b as (λ _. ExprByte) [ true ↦ literalByte | false ↦ elim c as (λ _. ExprByte) [ true ↦ readByte | false ↦ ExprByte.unknownByte ] ] ])
-    go true true e c f = is10 (eqb-true _ _ e)
-    go true false e true f = is11 (eqb-true _ _ f)
-    go true false e false f = unknown
-    go false b e c f = nothing
+    all-stands : {A : Type 0} (none : A) (table : List A) → StandsAt none table 0 table
+    all-stands none table = record { at = λ j l. let e : 0 + j ≡ j = omega arith in ap (λ (n : ℕ). getD table n none) e }
 
-data CmdSorted (b : ℕ) : CmdByte → Type 0 where
-  is20 : b ≡ 0x20 → CmdSorted b skipByte
-  is21 : b ≡ 0x21 → CmdSorted b assignByte
-  is22 : b ≡ 0x22 → CmdSorted b seqByte
-  is23 : b ≡ 0x23 → CmdSorted b ifByte
-  is24 : b ≡ 0x24 → CmdSorted b whileByte
-  unknown : CmdSorted b CmdByte.unknownByte
-  nothing : CmdSorted b CmdByte.noByte
+-- The same of expressions.
+module _ (t : Compiled) (o : ℕ) where
+  pub exprs-head : (e : Expr) (es : List Expr) → ExprsAt t o (e ∷ es) → LiteralOf Formed e
+      → OperandAt (t .operands) (t .payloads) o e
+  unfolding operandsOf payloadsOf
+  exprs-head e es h f =
+      record {
+        inside = omega (arith, h .fits);
+        entry = stands-head [] (t .operands) o (operandOf e) (operandsOf es) (h .heads);
+        payload = stands-head 0 (t .payloads) o (payloadOf e) (payloadsOf es) (h .payloads);
+        formed = literal-is Formed e f;
+      }
 
-byte-sorted : (b : ℕ) → CmdSorted b (sorted b)
-unfolding sorted
-byte-sorted b = skips (eqb b 0x20) refl
+  pub exprs-tail : (e : Expr) (es : List Expr) → ExprsAt t o (e ∷ es) → ExprsAt t (o + 1) es
+  unfolding operandsOf payloadsOf
+  exprs-tail e es h =
+      record {
+        heads = stands-tail [] (t .operands) o (operandOf e) (operandsOf es) (h .heads);
+        payloads = stands-tail 0 (t .payloads) o (payloadOf e) (payloadsOf es) (h .payloads);
+        fits = omega (arith, h .fits);
+      }
+
+  pub exprs-front : (es fs : List Expr) → ExprsAt t o (es ++ fs) → ExprsAt t o es
+  exprs-front es fs h =
+      record {
+        heads = stands-front [] (t .operands) o (operandsOf es) (operandsOf fs) (rw (operands-append es fs) at (h .heads));
+        payloads = stands-front 0 (t .payloads) o (payloadsOf es) (payloadsOf fs) (rw (payloads-append es fs) at (h .payloads));
+        fits = omega (arith, h .fits, length-append es fs);
+      }
+
+  pub exprs-rest : (es fs : List Expr) → ExprsAt t o (es ++ fs) → ExprsAt t (o + length es) fs
+  exprs-rest es fs h =
+      record {
+        heads = stands-rest [] (t .operands) o (operandsOf es) (operandsOf fs) (o + length es) (omega (arith, operands-length es))
+            (rw (operands-append es fs) at (h .heads));
+        payloads = stands-rest 0 (t .payloads) o (payloadsOf es) (payloadsOf fs) (o + length es) (omega (arith, payloads-length es))
+            (rw (payloads-append es fs) at (h .payloads));
+        fits = omega (arith, h .fits, length-append es fs);
+      }
+
+-- Rows and expressions stand together.
+pub record PartAt (t : Compiled) (r o : ℕ) (rows : List (List ℕ)) (es : List Expr) : Type 0 where
+  pub rows-at : StandsAt [] (t .rows) r rows
+  pub exprs-at : ExprsAt t o es
+  pub fits : r + length rows ≤ mostRows
+
+module _ (t : Compiled) (r o : ℕ) where
+  -- the first rows with the first expressions, and what follows them
+  pub part-front : (xs ys : List (List ℕ)) (es fs : List Expr) → PartAt t r o (xs ++ ys) (es ++ fs) → PartAt t r o xs es
+  part-front xs ys es fs h =
+      record {
+        rows-at = stands-front [] (t .rows) r xs ys (h .rows-at);
+        exprs-at = exprs-front t o es fs (h .exprs-at);
+        fits = omega (arith, h .fits, length-append xs ys);
+      }
+
+  pub part-rest : (xs ys : List (List ℕ)) (es fs : List Expr) (n : ℕ) → n ≡ r + length xs → PartAt t r o (xs ++ ys) (es ++ fs)
+      → PartAt t n (o + length es) ys fs
+  part-rest xs ys es fs n p h =
+      record {
+        rows-at = stands-rest [] (t .rows) r xs ys n p (h .rows-at);
+        exprs-at = exprs-rest t o es fs (h .exprs-at);
+        fits = omega (arith, h .fits, length-append xs ys);
+      }
+
+  -- without the first row, and the first expression if that is the row's
+  pub part-tail : {row : List ℕ} {rows : List (List ℕ)} {e : Expr} {es : List Expr} → PartAt t r o (row ∷ rows) (e ∷ es) → PartAt t (r + 1) (o + 1) rows es
+  part-tail {row} {rows} {e} {es} h =
+      record {
+        rows-at = stands-tail [] (t .rows) r row rows (h .rows-at);
+        exprs-at = exprs-tail t o e es (h .exprs-at);
+        fits = omega (arith, h .fits);
+      }
+
+  pub part-later : {row : List ℕ} {rows : List (List ℕ)} {es : List Expr} → PartAt t r o (row ∷ rows) es → PartAt t (r + 1) o rows es
+  part-later {row} {rows} h =
+      record { rows-at = stands-tail [] (t .rows) r row rows (h .rows-at); exprs-at = h .exprs-at; fits = omega (arith, h .fits) }
+
+  -- What the first row is, as the machine meets it.
+  pub assign-at : {d at : ℕ} {x v : Expr} → PartAt t r o (assignRow d at o (o + 1) ∷ []) (x ∷ v ∷ []) → d ≤ mostDeep → LiteralOf Formed x → LiteralOf Formed v
+      → AssignAt t r d at x v
+  assign-at {d} {at} {x} {v} h l f g =
+      record {
+        target = o;
+        value = o + 1;
+        holds = stands-head [] (t .rows) r (assignRow d at o (o + 1)) [] (h .rows-at);
+        early = omega (arith, h .fits);
+        level = l;
+        target-is = exprs-head t o x (v ∷ []) (h .exprs-at) f;
+        value-is = exprs-head t (o + 1) v [] (exprs-tail t o x (v ∷ []) (h .exprs-at)) g;
+      }
+
+  pub guard-at : {d at other : ℕ} {rows : List (List ℕ)} {g : Expr} {es : List Expr} → PartAt t r o (guardRow d at o other ∷ rows) (g ∷ es) → d < mostDeep
+      → LiteralOf Formed g → GuardAt t r d at g other
+  guard-at {d} {at} {other} {rows} {g} {es} h l f =
+      record {
+        operand = o;
+        holds = stands-head [] (t .rows) r (guardRow d at o other) rows (h .rows-at);
+        early = omega (arith, h .fits);
+        level = l;
+        operand-is = exprs-head t o g es (h .exprs-at) f;
+      }
+
+  pub jump-at : {target : ℕ} {rows : List (List ℕ)} {es : List Expr} → PartAt t r o (jumpRow target ∷ rows) es
+      → (r < target) ⊎ (kindAt t target ≡ guardKind) → JumpAt t r target
+  jump-at {target} {rows} h f =
+      record { holds = stands-head [] (t .rows) r (jumpRow target) rows (h .rows-at); early = omega (arith, h .fits); falls = f }
+
+  pub end-at : {rows : List (List ℕ)} {es : List Expr} → PartAt t r o (endRow ∷ rows) es → EndAt t r
+  end-at {rows} h = record { holds = stands-head [] (t .rows) r endRow rows (h .rows-at); early = omega (arith, h .fits) }
+
+-- A programme's blocks stand where their rows and expressions do.
+blocks-at : (t : Compiled) (bs : List Block) (r o : ℕ) → PartAt t r o (blocksRows bs r o) (blocksExprs bs) → AllSound bs → BlocksAt t r o bs
+unfolding blocksRows blocksExprs AllSound BlocksAt
+blocks-at t [] r o h s = tt
+blocks-at t (b ∷ bs) r o h s =
+    let c = b .command in
+    let n = r + size c + 1 in
+    let m = o + length (exprsOf c) in
+    let first = rowsOf c 0 r o in
+    let l : length first ≡ size c = rows-length c 0 r o in
+    let l′ : length (first ++ (endRow ∷ [])) ≡ length first + 1 = length-append first (endRow ∷ []) in
+    let p : PartAt t r o (first ++ (endRow ∷ []) ++ blocksRows bs n m) (exprsOf c ++ blocksExprs bs) =
+    rw (append-snoc first endRow (blocksRows bs n m)) h in
+    let q = part-front t r o (first ++ (endRow ∷ [])) (blocksRows bs n m) (exprsOf c) (blocksExprs bs) p in (
+      record { rows = q .rows-at; exprs = q .exprs-at; fits = omega (arith, q .fits); sound = s .0 },
+      blocks-at t bs n m (part-rest t r o (first ++ (endRow ∷ [])) (blocksRows bs n m) (exprsOf c) (blocksExprs bs) n (omega arith) p) (s .1),
+    )
+
+-- the blocks of a programme that was compiled into tables with room for it stand there, from the first row and operand on
+pub blocks-stand : (t old : Compiled) (bs : List Block) → t ≡ compiled bs old
+    → length (old .rows) ≡ mostRows → length (old .operands) ≡ mostOperands → length (old .payloads) ≡ mostOperands
+    → length (blocksRows bs 0 0) ≤ mostRows → length (blocksExprs bs) ≤ mostOperands → AllSound bs → BlocksAt t 0 0 bs
+unfolding compiled filled
+blocks-stand t old bs e n m m′ h k s = rw e (blocks-at (compiled bs old) bs 0 0 stood s)
   where
-    loops : (t : Bool) → eqb b 0x24 ≡ t → CmdSorted b (elim t as (λ _. CmdByte) [ true ↦ whileByte | false ↦ CmdByte.unknownByte ])
-    loops true e = is24 (eqb-true _ _ e)
-    loops false e = unknown
+    es : List Expr
+    es = blocksExprs bs
 
-    ifs : (t : Bool) → eqb b 0x23 ≡ t → CmdSorted b (elim t as (λ _. CmdByte) [ true ↦ ifByte | false ↦ elim (eqb b 0x24) as (λ _. CmdByte) [ true ↦ whileByte | false ↦ CmdByte.unknownByte ] ])
-    ifs true e = is23 (eqb-true _ _ e)
-    ifs false e = loops (eqb b 0x24) refl
-
-    seqs : (t : Bool) → eqb b 0x22 ≡ t → CmdSorted b (elim t as (λ _. CmdByte) [ true ↦ seqByte | false ↦ elim (eqb b 0x23) as (λ _. CmdByte) [ true ↦ ifByte | false ↦ elim (eqb b 0x24) as (λ _. CmdByte) [ true ↦ whileByte | false ↦ CmdByte.unknownByte ] ] ])
-    seqs true e = is22 (eqb-true _ _ e)
-    seqs false e = ifs (eqb b 0x23) refl
-
-    assigns : (t : Bool) → eqb b 0x21 ≡ t → CmdSorted b (elim t as (λ _. CmdByte) [ true ↦ assignByte | false ↦ elim (eqb b 0x22) as (λ _. CmdByte) [ true ↦ seqByte | false ↦ elim (eqb b 0x23) as (λ _. CmdByte) [ true ↦ ifByte | false ↦ elim (eqb b 0x24) as (λ _. CmdByte) [ true ↦ whileByte | false ↦ CmdByte.unknownByte ] ] ] ])
-    assigns true e = is21 (eqb-true _ _ e)
-    assigns false e = seqs (eqb b 0x22) refl
-
-    skips : (t : Bool) → eqb b 0x20 ≡ t → CmdSorted b (elim t as (λ _. CmdByte) [ true ↦ skipByte | false ↦ elim (eqb b 0x21) as (λ _. CmdByte) [ true ↦ assignByte | false ↦ elim (eqb b 0x22) as (λ _. CmdByte) [ true ↦ seqByte | false ↦ elim (eqb b 0x23) as (λ _. CmdByte) [ true ↦ ifByte | false ↦ elim (eqb b 0x24) as (λ _. CmdByte) [ true ↦ whileByte | false ↦ CmdByte.unknownByte ] ] ] ] ])
-    skips true e = is20 (eqb-true _ _ e)
-    skips false e = assigns (eqb b 0x21) refl
-
-cmd-sorted : (s : List ℕ) (at : ℕ) → CmdSorted (getD s at 0) (cmdByte s at)
-unfolding cmdByte
-cmd-sorted s at = go (ltb at (length s))
-  where
-    go : (a : Bool) → CmdSorted (getD s at 0) (elim a as (λ _. CmdByte) [ true ↦ sorted (getD s at 0) | false ↦ CmdByte.noByte ])
-    go true = byte-sorted (getD s at 0)
-    go false = nothing
-
-module _ (m : ℕ) (few : m ≤ mostSlots) (s : List ℕ) where
-  abbrev ValueStands : ℕ → Read Value → Type 0
-  ValueStands at r = (r .tree ≡ valueAt s at) × (wellFormed mostSlots (r .tree) ≡ true) × (r .next ≡ at + valueWidth) × (r .next ≤ length s)
-
-  value-stands : (at : ℕ) → Post (ValueStands at) Any (readValue m s at)
-  unfolding readValue
-  value-stands at =
-      post-require _ _ _ _ _
-      (λ _. post-require _ _ _ _ _
-      (λ _. post-require _ _ _ _ _ (λ w. post-require _ _ _ _ _ (λ g. post-ok _ _ _ (refl, formed-more m _ g mostSlots few, refl, leb-true _ _ w)) (λ _. tt)) (λ _. tt))
-      (λ _. tt))
-      (λ _. tt)
-
-  abbrev ExprStands : ℕ → Read Expr → Type 0
-  ExprStands at r = ExprAt s (r .tree) at (r .next)
-
-  expr-by : (at : ℕ) (y : ExprByte) → ExprSorted (getD s at 0) y → (inner : ℕ → Result Fault (Read Expr))
-      → Post (ExprStands (at + 1)) Any (inner at) → Post (ExprStands at) Any (exprBy y inner m s at)
-  unfolding exprBy
-  expr-by at y (is10 b) inner h = post-bind _ _ _ _ _ (value-stands (at + 1)) (λ v p. post-ok _ _ _ (isLiteral b (p .0) (p .1) (p .2) (p .3)))
-  expr-by at y (is11 b) inner h = post-bind _ _ _ _ _ h (λ e p. post-ok _ _ _ (isRead b p))
-  expr-by at y unknown inner h = post-refuse _ _ _ tt
-  expr-by at y nothing inner h = post-refuse _ _ _ tt
-
-  expr-stands : (deep at : ℕ) → Post (ExprStands at) Any (readExpr deep m s at)
-  unfolding readExpr
-  expr-stands zero at = expr-by at _ (expr-sorted s at) _ (post-refuse _ _ _ tt)
-  expr-stands (suc deep) at = expr-by at _ (expr-sorted s at) _ (expr-stands deep (at + 1))
-
--- where a command stands, but for its byte
-record Place (s ends : List ℕ) (at end depth : ℕ) : Type 0 where
-  early : at < end
-  within : end ≤ length s
-  ended : getD ends at 0 ≡ end
-  level : depth < mostDeep
-
-head : {s ends : List ℕ} {at end depth : ℕ} {op : ℕ} → getD s at 0 ≡ op → Place s ends at end depth → Head s ends op at end depth
-head b p = record { byte = b; early = p .early; within = p .within; ended = p .ended; level = p .level }
-
--- a command, a body, some commands that were read, whatever side table holds their ends
-abbrev CmdStands : List ℕ → ℕ → ℕ → Read Cmd → Type 0
-CmdStands s depth at r = (ends : List ℕ) → Holds (r .tree) ends → CmdAt s ends (r .tree) at (r .next) depth
-
-abbrev BodyStands : List ℕ → ℕ → ℕ → Read Body → Type 0
-BodyStands s depth at r =
-    (ends : List ℕ) → HoldsBody (r .tree) ends → Place s ends at (r .next) depth → CmdAt s ends (cmd at (r .next) (r .tree)) at (r .next) depth
-
-abbrev CmdsStand : List ℕ → ℕ → ℕ → ℕ → Read Cmds → Type 0
-CmdsStand s depth n at r = (size (r .tree) ≡ n) × ((ends : List ℕ) → HoldsAll (r .tree) ends → CmdsAt s ends (r .tree) at (r .next) depth)
-
-module _ (m : ℕ) (few : m ≤ mostSlots) (s : List ℕ) (depth : ℕ) (f : ℕ → Result Fault (Read Cmd)) (inner : (p : ℕ) → Post (CmdStands s (depth + 1) p) Any (f p)) where
-  cmds-stand : (n p : ℕ) → Post (CmdsStand s (depth + 1) n p) Any (readCmds f n p)
-  unfolding readCmds size HoldsAll
-  cmds-stand zero p = post-ok _ _ _ (refl, λ ends h. none refl)
-  cmds-stand (suc n) p =
-      post-bind (CmdStands s (depth + 1) p) _ _ _ _ (inner p)
-      (λ c i. post-bind (CmdsStand s (depth + 1) n (c .next)) _ _ _ _ (cmds-stand n (c .next))
-      (λ cs j. post-ok _ _ _ (omega (arith, j .0), λ ends h. more (i ends (h .0)) (j .1 ends (h .1)))))
-
-  -- a sequence has two children at least
-  seq-stands : (at : ℕ) → getD s at 0 ≡ 0x22 → leb 2 (getD s (at + 1) 0) ≡ true → (r : Read Cmds) → CmdsStand s (depth + 1) (getD s (at + 1) 0) (at + 2) r
-      → BodyStands s depth at (record { tree = seq (r .tree); next = r .next })
-  unfolding HoldsBody size
-  seq-stands at b two r j = λ ends h pl. go (r .tree) (j .0) (j .1 ends h) pl
-    where
-      go : {ends : List ℕ} {end : ℕ} (cs : Cmds) → size cs ≡ getD s (at + 1) 0 → CmdsAt s ends cs (at + 2) end (depth + 1) → Place s ends at end depth
-          → CmdAt s ends (cmd at end (seq cs)) at end depth
-      go nil z k pl = absurd (omega (arith, leb-true 2 (getD s (at + 1) 0) two))
-      go (cons c cs) z (more d ds) pl = isSeq refl (head b pl) (sym z) d ds
-
-  body-by : (at : ℕ) (y : CmdByte) → CmdSorted (getD s at 0) y → Post (BodyStands s depth at) Any (bodyBy y f m s at)
-  unfolding bodyBy readAssign readSeq readIf readWhile HoldsBody
-  body-by at y (is20 b) = post-ok _ _ _ (λ ends h pl. isSkip refl (head b pl) refl)
-  body-by at y (is21 b) =
-      post-bind _ _ _ _ _ (expr-stands m few s mostReads (at + 1))
-      (λ x p. post-bind _ _ _ _ _ (expr-stands m few s mostReads (x .next)) (λ v q. post-ok _ _ _ (λ ends h pl. isAssign refl (head b pl) p q)))
-  body-by at y (is22 b) =
-      post-require _ _ _ _ _
-      (λ _. post-require _ _ _ _ _
-      (λ two. post-bind _ _ _ _ _ (cmds-stand (getD s (at + 1) 0) (at + 2)) (λ cs j. post-ok _ _ _ (seq-stands at b two cs j))) (λ _. tt))
-      (λ _. tt)
-  body-by at y (is23 b) =
-      post-bind _ _ _ _ _ (expr-stands m few s mostReads (at + 1))
-      (λ g p. post-bind _ _ _ _ _ (inner (g .next))
-      (λ c i. post-bind _ _ _ _ _ (inner (c .next)) (λ d j. post-ok _ _ _ (λ ends h pl. isIf refl (head b pl) p (i ends (h .0)) (j ends (h .1))))))
-  body-by at y (is24 b) =
-      post-bind _ _ _ _ _ (expr-stands m few s mostReads (at + 1))
-      (λ g p. post-bind _ _ _ _ _ (inner (g .next)) (λ c i. post-ok _ _ _ (λ ends h pl. isWhile refl (head b pl) p (i ends h))))
-  body-by at y unknown = post-refuse _ _ _ tt
-  body-by at y nothing = post-refuse _ _ _ tt
-
--- where no more commands are allowed none is read
-body-deep : (P : Read Body → Type 0) (s : List ℕ) (at : ℕ) (y : CmdByte) → Post P Any (bodyTooDeep y s at)
-unfolding bodyTooDeep
-body-deep P s at skipByte = post-refuse _ _ _ tt
-body-deep P s at assignByte = post-refuse _ _ _ tt
-body-deep P s at seqByte = post-refuse _ _ _ tt
-body-deep P s at ifByte = post-refuse _ _ _ tt
-body-deep P s at whileByte = post-refuse _ _ _ tt
-body-deep P s at CmdByte.unknownByte = post-refuse _ _ _ tt
-body-deep P s at CmdByte.noByte = post-refuse _ _ _ tt
-
-holds-end : (c : Cmd) (lo hi : ℕ) (ends : List ℕ) → Laid c lo hi → Holds c ends → getD ends lo 0 ≡ hi
-unfolding Laid Holds
-holds-end (cmd at e b) lo hi ends l h = rw (l .0, l .1) at (h .0)
-
--- a command, from its body and where the reader found that it ends
-placed-stands : (m : ℕ) (s : List ℕ) (deep depth at : ℕ) → depth < mostDeep → Post (BodyStands s depth at) Any (readBody deep m s at)
-    → Post (CmdStands s depth at) Any (readCmd deep m s at)
-unfolding Holds
-placed-stands m s deep depth at level h =
-    post-map _ _ _ _ _
-    (post-both _ _ _ _ _
-    (post-bind (BodyStands s depth at) (λ r. (ends : List ℕ) → Holds (r .tree) ends → Place s ends at (r .next) depth → CmdAt s ends (r .tree) at (r .next) depth) _ _ _ h
-    (λ b i. post-ok _ _ _ (λ ends k pl. i ends (k .1) pl)))
-    (cmd-laid deep m s at))
-    (λ r p ends k. p .0 ends k (record { early = laid-lt (r .tree) at (r .next) (p .1 .1); within = p .1 .0; ended = holds-end (r .tree) at (r .next) ends (p .1 .1) k; level = level }))
-    (λ _ _. tt)
-
-cmd-stands : (m : ℕ) → m ≤ mostSlots → (s : List ℕ) (deep depth at : ℕ) → deep + depth ≡ mostDeep → Post (CmdStands s depth at) Any (readCmd deep m s at)
-unfolding readBody
-cmd-stands m few s zero depth at h = post-bind (λ _. ⊥) _ _ _ _ (body-deep (λ _. ⊥) s at (cmdByte s at)) (λ b x. absurd x)
-cmd-stands m few s (suc deep) depth at h =
-    placed-stands m s (suc deep) depth at (omega arith)
-    (body-by m few s depth _ (λ p. cmd-stands m few s deep (depth + 1) p (omega arith)) at _ (cmd-sorted s at))
-
--- a block that was read fills its code
-pub block-stands : (m : ℕ) → m ≤ mostSlots → (s : List ℕ) → Post (λ (c : Cmd). (ends : List ℕ) → Holds c ends → CmdAt s ends c 0 (length s) 0) Any (readBlock m s)
-unfolding readBlock
-block-stands m few s =
-    post-bind (CmdStands s 0 0) _ _ _ _ (cmd-stands m few s mostDeep 0 0 (omega arith))
-    (λ c h. post-require _ _ _ _ _ (λ e. post-ok _ _ _ (λ ends k. rw (eqb-true (c .next) (length s) e) at (h ends k))) (λ _. tt))
+    stood : PartAt (compiled bs old) 0 0 (blocksRows bs 0 0) (blocksExprs bs)
+    stood = record {
+      rows-at = sets-stand [] (old .rows) 0 (blocksRows bs 0 0) (omega arith);
+      exprs-at = record {
+        heads = sets-stand [] (old .operands) 0 (operandsOf es) (omega (arith, operands-length es));
+        payloads = sets-stand 0 (old .payloads) 0 (payloadsOf es) (omega (arith, payloads-length es));
+        fits = omega arith;
+      };
+      fits = omega arith;
+    }

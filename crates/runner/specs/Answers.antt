@@ -3,10 +3,10 @@
 use Prim.Native.Nat.{ℕ}
 use mathlib.Core.Bool.{Bool, true, false}
 use lib.Dec.{eqb}
-use Rattle.runner.specs.declared.Evaluated.{Evaluated}
-use Rattle.runner.specs.declared.Verdict.{Verdict}
-use Rattle.runner.specs.declared.Made.{Made}
-use Rattle.runner.specs.declared.Move.{Move}
+use Rattle.runner.specs.declared.expressions.Evaluated.{Evaluated}
+use Rattle.runner.specs.declared.steps.Judged.{Judged}
+use Rattle.runner.specs.declared.steps.Made.{Made}
+use Rattle.runner.specs.declared.machine.Next.{Next}
 
 -- an expression's
 pub data Got : Type 0 where
@@ -21,18 +21,18 @@ abbrev pub got : Evaluated → Got
 got x = gotBy (eqb (x .refusal) 0) x
 
 -- a guard's
-pub data Ruling : Type 0 where
-  Passes : (label : ℕ) → Ruling
-  Fails : (label : ℕ) → Ruling
-  Refused : (number : ℕ) → Ruling
+pub data Judging : Type 0 where
+  Passes : (label : ℕ) → Judging
+  Fails : (label : ℕ) → Judging
+  Refused : (number : ℕ) → Judging
 
-unfoldable pub rulingBy : Bool → Bool → Verdict → Ruling
-rulingBy true true x = Ruling.Passes (x .label)
-rulingBy true false x = Ruling.Fails (x .label)
-rulingBy false p x = Ruling.Refused (x .refusal)
+unfoldable pub judgingBy : Bool → Bool → Judged → Judging
+judgingBy true true x = Judging.Passes (x .label)
+judgingBy true false x = Judging.Fails (x .label)
+judgingBy false p x = Judging.Refused (x .refusal)
 
-abbrev pub ruling : Verdict → Ruling
-ruling x = rulingBy (eqb (x .refusal) 0) (x .passes) x
+abbrev pub judging : Judged → Judging
+judging x = judgingBy (eqb (x .refusal) 0) (x .passes) x
 
 -- an assignment's
 pub data Making : Type 0 where
@@ -46,16 +46,14 @@ makingBy false x = Making.Refused (x .refusal)
 abbrev pub making : Made → Making
 making x = makingBy (eqb (x .refusal) 0) x
 
--- what comes next
+-- what comes next: a row; or the step at a row was refused
 pub data Control : Type 0 where
-  Enter : (at depth label steps : ℕ) → Control
-  Leave : (at depth steps : ℕ) → Control
-  Stopped : (number at steps : ℕ) → Control
+  On : (row steps : ℕ) → Control
+  Stopped : (number row steps : ℕ) → Control
 
-unfoldable pub controlBy : Bool → Bool → Move → Control
-controlBy true true x = Control.Enter (x .at) (x .depth) (x .label) (x .steps)
-controlBy true false x = Control.Leave (x .at) (x .depth) (x .steps)
-controlBy false e x = Control.Stopped (x .refusal) (x .at) (x .steps)
+unfoldable pub controlBy : Bool → Next → Control
+controlBy true x = Control.On (x .row) (x .steps)
+controlBy false x = Control.Stopped (x .refusal) (x .row) (x .steps)
 
-abbrev pub control : Move → Control
-control x = controlBy (eqb (x .refusal) 0) (x .entering) x
+abbrev pub control : Next → Control
+control x = controlBy (eqb (x .refusal) 0) x

@@ -1,21 +1,19 @@
 -- What the machine's numbers mean in the calculus: labels as masks, slots as rows, answers of its parts. Assumes nothing.
-use Prim.Native.Nat.{ℕ, _≤_, _<_}
+use Prim.Native.Nat.{ℕ, _<_}
 use mathlib.Core.Path.{_≡_}
-use mathlib.Core.Bool.{Bool, true, false, not}
+use mathlib.Core.Bool.{Bool, true, false}
 use mathlib.Core.List.{List}
 use lib.ListN.{length}
-use lib.Dec.{eqb}
 use Rattle.lattice.specs.declared.Table.{Table}
 use Rattle.lattice.specs.Order.{Label, mask, top}
-use Rattle.store.specs.Result.{Result, ok, refuse, require}
+use Rattle.store.specs.Result.{Result, ok, refuse}
 use Rattle.store.specs.Value.{wellFormed}
 use Rattle.store.specs.Sheet.{Tables, ownerOf, mostSlots}
 use Rattle.store.specs.Held.{Ordered, heldOf}
 use Rattle.calculus.specs.Rules.{RuleSet, accessControl, capability, explicitProvenance, fullProvenance, judgesViews, judgesRegion}
-use Rattle.calculus.specs.Calculus.{Setting, Store, contents, Labelled, Judged, Write}
-use Rattle.calculus.specs.Blocks.{mostBudget}
-use Rattle.runner.specs.Answers.{Got, Ruling, Making}
-use Rattle.runner.specs.declared.Terms.{Terms}
+use Rattle.calculus.specs.Calculus.{Setting, Store, State, Stop, stopAt, contents, Labelled, Judged, Write}
+use Rattle.runner.specs.Answers.{Got, Judging, Making}
+use Rattle.runner.specs.declared.rules.Terms.{Terms}
 
 -- a label is held as its principal's mask
 pub record LabelHeld (t : Table) (l : Label) (x : ℕ) : Type 0 where
@@ -35,10 +33,6 @@ judgesBranch capability = false
 judgesBranch explicitProvenance = false
 judgesBranch fullProvenance = true
 
--- a step's answer where steps are left, and 17 where none is
-unfoldable pub unspent : {A : Type 0} → Setting → ℕ → Result ℕ A → Result ℕ A
-unspent w steps r = require (not (eqb steps (w .budget))) 17 r
-
 -- what a block runs under, as the machine holds it
 pub record Serves (w : Setting) (t : Terms) (held : List ℕ) : Type 0 where
   pub grounds : Ordered (w .tables)
@@ -50,8 +44,6 @@ pub record Serves (w : Setting) (t : Terms) (held : List ℕ) : Type 0 where
   pub regions : t .regions ≡ judgesRegion (w .rules)
   pub labels : t .labels ≡ judgesLabels (w .rules)
   pub branches : t .branches ≡ judgesBranch (w .rules)
-  pub budget : t .budget ≡ w .budget
-  pub modest : w .budget ≤ mostBudget
 
 -- a store is held as rows; its views name slots that are held
 pub record StoreHeld (w : Tables) (s : Store) (rows : List (List ℕ)) : Type 0 where
@@ -71,18 +63,28 @@ pub data EvaluatedAs (t : Table) : Got → Result ℕ Labelled → Type 0 where
   gives : {k p l : ℕ} {x : Labelled} → ValueHeld t x k p l → EvaluatedAs t (Got.Value k p l) (ok x)
   refuses : {n : ℕ} → EvaluatedAs t (Got.Refused n) (refuse n)
 
-pub data JudgedAs (t : Table) : Ruling → Result ℕ Judged → Type 0 where
-  passes : {l : ℕ} {j : Judged} → j .passes ≡ true → LabelHeld t (j .label) l → JudgedAs t (Ruling.Passes l) (ok j)
-  fails : {l : ℕ} {j : Judged} → j .passes ≡ false → LabelHeld t (j .label) l → JudgedAs t (Ruling.Fails l) (ok j)
-  refuses : {n : ℕ} → JudgedAs t (Ruling.Refused n) (refuse n)
+pub data JudgedAs (t : Table) : Judging → Result ℕ Judged → Type 0 where
+  passes : {l : ℕ} {j : Judged} → j .passes ≡ true → LabelHeld t (j .label) l → JudgedAs t (Judging.Passes l) (ok j)
+  fails : {l : ℕ} {j : Judged} → j .passes ≡ false → LabelHeld t (j .label) l → JudgedAs t (Judging.Fails l) (ok j)
+  refuses : {n : ℕ} → JudgedAs t (Judging.Refused n) (refuse n)
 
 pub data MadeAs (w : Tables) : Making → Result ℕ Write → Type 0 where
-  writes : {i k p o : ℕ} {x : Write} → i < mostSlots → wellFormed mostSlots (x .value) ≡ true → x .slot ≡ i → x .value .kind ≡ k → x .value .payload ≡ p → ownerOf w i ≡ o → MadeAs w (Making.Write i k p o) (ok x)
+  writes : {i k p o : ℕ} {x : Write} → i < mostSlots → wellFormed mostSlots (x .value) ≡ true → x .slot ≡ i → x .value .kind ≡ k
+      → x .value .payload ≡ p → ownerOf w i ≡ o → MadeAs w (Making.Write i k p o) (ok x)
   refuses : {n : ℕ} → MadeAs w (Making.Refused n) (refuse n)
 
--- the machine can judge: some setting and store stand behind its numbers
-pub record CanJudge (t : Terms) (masks : List ℕ) (rows : List (List ℕ)) : Type 0 where
-  pub setting : Setting
-  pub store : Store
-  pub serves : Serves setting t masks
-  pub held : StoreHeld (setting .tables) store rows
+-- the state behind the held rows and the count
+pub record StateHeld (w : Setting) (rows : List (List ℕ)) (n : ℕ) (s : State) : Type 0 where
+  pub store : StoreHeld (w .tables) (s .store) rows
+  pub steps : s .steps ≡ n
+
+-- how a block that was stopped, and one that ended, means its result
+pub record StopsAs (w : Setting) (rows : List (List ℕ)) (number at steps : ℕ) (whole : Result Stop State) : Type 0 where
+  pub state : State
+  pub held : StateHeld w rows steps state
+  pub means : whole ≡ refuse (stopAt at state number)
+
+pub record DoneAs (w : Setting) (rows : List (List ℕ)) (steps : ℕ) (whole : Result Stop State) : Type 0 where
+  pub state : State
+  pub held : StateHeld w rows steps state
+  pub means : whole ≡ ok state

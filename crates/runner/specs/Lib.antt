@@ -1,5 +1,7 @@
-pub mod Layout
 pub mod Answers
 pub mod Held
-pub mod Moves
+pub mod Running
+pub mod Machine
 pub mod Playing
+pub mod Contracts
+pub mod Whole

@@ -1,29 +1,30 @@
 -- A run of blocks as the machine plays it: what its numbers mean. Assumes nothing.
-use Prim.Native.Nat.{ℕ, _+_, _-_, _≤_, _<_}
+use Prim.Native.Nat.{ℕ, _+_, _≤_, _<_}
 use mathlib.Core.Path.{_≡_}
 use mathlib.Core.Bool.{true, false}
-use mathlib.Core.List.{List}
+use mathlib.Core.List.{List, [], _∷_}
 use lib.ListN.{length}
 use Rattle.lattice.specs.declared.Table.{Table}
+use Rattle.lattice.specs.Order.{top}
 use Rattle.store.specs.Result.{Result, ok, refuse}
-use Rattle.store.specs.declared.Opened.{Opened}
-use Rattle.store.specs.Sheet.{Tables, Opening, mostSlots}
-use Rattle.store.specs.Held.{Ordered, openedOf}
+use Rattle.store.specs.Sheet.{Tables, sizesWidth}
+use Rattle.store.specs.Held.{Ordered}
 use Rattle.programme.specs.declared.Header.{Header}
 use Rattle.programme.specs.Syntax.{Cmd}
-use Rattle.programme.specs.Code.{readBlock}
-use Rattle.programme.specs.Sheet.{Block, headerAt, mostCode, blocksFrom, programmeSheet}
-use Rattle.programme.specs.Reading.{GoodLengths, Stands}
+use Rattle.programme.specs.Sheet.{Block, headerAt}
+use Rattle.programme.specs.Rows.{Compiled, size}
 use Rattle.calculus.specs.Rules.{RuleSet, judgesViews, judgesRegion}
-use Rattle.calculus.specs.Calculus.{Setting, Store, State}
-use Rattle.calculus.specs.Blocks.{Halt, mostBudget, runBlocks}
-use Rattle.runner.specs.declared.Judges.{Judges}
-use Rattle.runner.specs.declared.Ran.{Ran}
-use Rattle.runner.specs.declared.Ran.the-variants.{Done, Stopped}
-use Rattle.runner.specs.declared.Ended.{Ended}
-use Rattle.runner.specs.declared.Ended.the-variants.{Finished, Halted}
-use Rattle.runner.specs.Held.{judgesLabels, judgesBranch, StoreHeld}
-use Rattle.runner.specs.Moves.{StateHeld}
+use Rattle.calculus.specs.Calculus.{Setting, State, Stop, exec}
+use Rattle.calculus.specs.Blocks.{Halt, runBlocks}
+use Rattle.runner.specs.declared.rules.Judges.{Judges}
+use Rattle.runner.specs.declared.rules.Terms.{Terms}
+use Rattle.runner.specs.declared.machine.Ran.{Ran}
+use Rattle.runner.specs.declared.machine.Ran.the-variants.{Done, Stopped}
+use Rattle.runner.specs.declared.blocks.Place.{Place}
+use Rattle.runner.specs.declared.blocks.Ended.{Ended}
+use Rattle.runner.specs.declared.blocks.Ended.the-variants.{Finished, Halted}
+use Rattle.runner.specs.Held.{judgesLabels, judgesBranch, Serves, StoreHeld, StateHeld, StopsAs, DoneAs}
+use Rattle.runner.specs.Running.{BlockAt, BlocksAt}
 
 -- what a rule set judges; nothing where there is none
 unfoldable pub judgesOf : Result ℕ RuleSet → Judges
@@ -32,96 +33,102 @@ judgesOf (ok r) =
 judgesOf (refuse e) = record { known = false; views = false; regions = false; labels = false; branches = false }
 
 -- what a block runs under, as the machine is told
-pub record Under (w : Setting) (t : Table) (j : Judges) (h : Header) (budget : ℕ) : Type 0 where
+pub record Under (w : Setting) (t : Table) (j : Judges) (h : Header) : Type 0 where
   pub grounds : Ordered (w .tables)
   pub order : w .tables .order ≡ t
   pub judges : j ≡ judgesOf (ok (w .rules))
   pub header : h ≡ w .header
   pub region : h .region < t .n
-  pub same : budget ≡ w .budget
-  pub modest : budget ≤ mostBudget
 
--- a block can be read and run
-pub record CanPlay (code : List ℕ) (h : Header) (slots : ℕ) (ends : List ℕ) (rows : List (List ℕ)) (t : Table) (j : Judges) (budget steps : ℕ) : Type 0 where
+-- a block's terms serve whatever setting it runs under
+abbrev pub Served : Table → Judges → Header → Terms → Type 0
+Served t j h terms = (w : Setting) → Under w t j h → Serves w terms (t .masks)
+
+-- What blocks are played by: the compiled tables, the order table, what the rule set judges, and the budget
+pub record Played : Type 0 where
+  pub tables : Compiled
+  pub order : Table
+  pub judges : Judges
+  pub budget : ℕ
+
+abbrev pub played : Compiled → Table → Judges → ℕ → Played
+played tables order judges budget = record { tables = tables; order = order; judges = judges; budget = budget }
+
+-- One block
+
+-- how it ended, where its end row is `last`
+unfoldable pub RanAs : Setting → ℕ → List (List ℕ) → Ran → Result Stop State → Type 0
+RanAs w last held (Done row steps) whole = (row ≡ last) × DoneAs w held steps whole
+RanAs w last held (Stopped number row at steps) whole = StopsAs w held number at steps whole
+
+-- a setting stands behind what a block is played by
+pub record BlockUnder (w : Setting) (g : Played) (h : Header) : Type 0 where
+  pub under : Under w (g .order) (g .judges) h
+  pub budget : w .budget ≡ g .budget
+
+-- a block is played, from its first row on
+abbrev pub PlaysBlock : Played → Header → ℕ → ℕ → List (List ℕ) → List (List ℕ) → Ran → Type 0
+PlaysBlock g h row steps held held′ r =
+    (w : Setting) (s : State) (o : ℕ) (c : Cmd) → BlockUnder w g h → StateHeld w held steps s → BlockAt (g .tables) row o c
+    → RanAs w (row + size c) held′ r (exec w c (top (w .tables .order)) s)
+
+-- some block can be
+pub record CanPlay (g : Played) (h : Header) (row steps : ℕ) (held : List (List ℕ)) : Type 0 where
   pub setting : Setting
-  pub under : Under setting t j h budget
+  pub under : BlockUnder setting g h
   pub state : State
-  pub held : StateHeld setting rows steps state
-  pub kept : steps ≤ budget
+  pub state-held : StateHeld setting held steps state
+  pub operand : ℕ
   pub command : Cmd
-  pub reads : readBlock slots code ≡ ok command
-  pub short : length code ≤ mostCode
-  pub few : slots ≤ mostSlots
-  pub room : length ends ≡ mostCode
+  pub stands : BlockAt (g .tables) row operand command
+  pub kept : steps ≤ g .budget
 
--- a programme that was judged, and what it is played under
-pub record Plays (w : Tables) (rules : RuleSet) (budget : ℕ) (p : List ℕ) (k slots : ℕ) (t : Table) (j : Judges) : Type 0 where
+-- All blocks
+
+-- "Blocks run in order": their headers stand in the sheet from the i-th on, and their regions are principals
+unfoldable pub HeadersAt : ℕ → List ℕ → ℕ → List Block → Type 0
+HeadersAt n p i [] = Unit {0}
+HeadersAt n p i (b ∷ bs) = (b .header ≡ headerAt p i) × (b .header .region < n) × HeadersAt n p (i + 1) bs
+
+-- tables and a rule set stand behind what blocks are played by
+pub record AllUnder (w : Tables) (rules : RuleSet) (g : Played) : Type 0 where
   pub grounds : Ordered w
-  pub order : w .order ≡ t
-  pub count : slots ≡ w .slots
-  pub few : slots ≤ mostSlots
-  pub judges : j ≡ judgesOf (ok rules)
-  pub modest : budget ≤ mostBudget
-  pub lengths : GoodLengths p k
-  pub headers : (i : ℕ) → i < k → headerAt p i .region < t .n
+  pub order : w .order ≡ g .order
+  pub judges : g .judges ≡ judgesOf (ok rules)
+
+-- where a run opens
+abbrev pub openingPlace : Place
+openingPlace = record { block = 0; row = 0; steps = 0 }
+
+-- the blocks from a place on, up to the k-th: played from the state behind the held rows they come to `whole`
+pub record LeftToPlay (w : Tables) (rules : RuleSet) (g : Played) (p : List ℕ) (k : ℕ) (from : Place) (held : List (List ℕ)) (whole : Result Halt State) : Type 0 where
+  pub rest : List Block
+  pub count : from .block + length rest ≡ k
+  pub headers : HeadersAt (w .order .n) p (from .block) rest
+  pub operand : ℕ
+  pub stand : BlocksAt (g .tables) (from .row) operand rest
+  pub state : State
+  pub store-held : StoreHeld w (state .store) held
+  pub steps : state .steps ≡ from .steps
+  pub kept : from .steps ≤ g .budget
+  pub means : runBlocks w rules (g .budget) (from .block) rest state ≡ whole
 
 -- how a run of blocks ended
-pub data EndedAs (w : Tables) (rows : List (List ℕ)) : Ended → Result Halt State → Type 0 where
-  finished : {n : ℕ} {s : State} → StoreHeld w (s .store) rows → s .steps ≡ n → EndedAs w rows (Finished n) (ok s)
+pub data EndedAs (w : Tables) (held : List (List ℕ)) : Ended → Result Halt State → Type 0 where
+  finished : {n : ℕ} {s : State} → StoreHeld w (s .store) held → s .steps ≡ n → EndedAs w held (Finished n) (ok s)
   halted : {n b o t : ℕ} {h : Halt} → h .stop .number ≡ n → h .block ≡ b → h .stop .offset ≡ o → h .stop .state .steps ≡ t
-      → EndedAs w rows (Halted n b o t) (refuse h)
+      → EndedAs w held (Halted n b o t) (refuse h)
 
--- the blocks from the i-th on are left to play: played from the state behind the held rows they come to `whole`
-pub record LeftToPlay (w : Tables) (rules : RuleSet) (budget slots : ℕ) (p : List ℕ) (k i n : ℕ) (rows : List (List ℕ)) (whole : Result Halt State) : Type 0 where
-  pub rest : List Block
-  pub reads : blocksFrom slots p (k - i) i ≡ ok rest
-  pub state : State
-  pub held : StoreHeld w (state .store) rows
-  pub count : state .steps ≡ n
-  pub kept : n ≤ budget
-  pub means : runBlocks w rules budget i rest state ≡ whole
+-- the blocks from a place on are played
+abbrev pub PlaysOn : Played → List ℕ → ℕ → Place → List (List ℕ) → List (List ℕ) → Ended → Type 0
+PlaysOn g p k from held held′ r =
+    (w : Tables) (rules : RuleSet) (whole : Result Halt State) → AllUnder w rules g → LeftToPlay w rules g p k from held whole → EndedAs w held′ r whole
 
--- what the i-th block's end means for the run
-unfoldable pub PlayedAs : Tables → RuleSet → ℕ → ℕ → List ℕ → ℕ → ℕ → List (List ℕ) → Ran → Result Halt State → Type 0
-PlayedAs w rules budget slots p k i rows (Done n) whole = LeftToPlay w rules budget slots p k (i + 1) n rows whole
-PlayedAs w rules budget slots p k i rows (Stopped n o t) whole = EndedAs w rows (Halted n i o t) whole
-
--- a run of blocks can start, and can go on at the i-th block
-pub record CanPlayAll (p : List ℕ) (k slots : ℕ) (rows : List (List ℕ)) (t : Table) (j : Judges) (budget : ℕ) : Type 0 where
+-- some can be
+pub record CanPlayOn (g : Played) (p : List ℕ) (k : ℕ) (from : Place) (held : List (List ℕ)) : Type 0 where
   pub tables : Tables
   pub rules : RuleSet
-  pub plays : Plays tables rules budget p k slots t j
-  pub store : Store
-  pub held : StoreHeld tables store rows
-  pub blocks : List Block
-  pub reads : blocksFrom slots p k 0 ≡ ok blocks
-
-pub record CanPlayAt (p : List ℕ) (k i start next slots : ℕ) (ends : List ℕ) (rows : List (List ℕ)) (t : Table) (j : Judges) (budget steps : ℕ) : Type 0 where
-  pub tables : Tables
-  pub rules : RuleSet
-  pub plays : Plays tables rules budget p k slots t j
+  pub under : AllUnder tables rules g
   pub whole : Result Halt State
-  pub left : LeftToPlay tables rules budget slots p k i steps rows whole
-  pub stands : Stands p k i start next
-  pub room : length ends ≡ mostCode
-
--- a store sheet that was opened
-pub record OpeningHeld (o : Opening) (t : Opened) (rows : List (List ℕ)) : Type 0 where
-  pub opened : t ≡ openedOf (ok o)
-  pub grounds : Ordered (o .tables)
-  pub held : StoreHeld (o .tables) (o .store) rows
-  pub small : o .tables .slots ≤ mostSlots
-
--- a run over an opened store can start
-pub record CanStart (t : Opened) (j : Judges) (budget : ℕ) (rows : List (List ℕ)) : Type 0 where
-  pub rules : RuleSet
-  pub opening : Opening
-  pub held : OpeningHeld opening t rows
-  pub judges : j ≡ judgesOf (ok rules)
-  pub modest : budget ≤ mostBudget
-
--- .. and its programme was taken in
-pub record CanFinish (p : List ℕ) (t : Opened) (j : Judges) (budget : ℕ) (rows : List (List ℕ)) : Type 0 where
-  pub start : CanStart t j budget rows
-  pub blocks : List Block
-  pub reads : programmeSheet (start .opening .tables .order .n) (start .opening .tables .slots) p ≡ ok blocks
+  pub left : LeftToPlay tables rules g p k from held whole
+  pub sheet : sizesWidth + k ≤ length p

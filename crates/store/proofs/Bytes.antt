@@ -91,12 +91,6 @@ number-part (suc width) n s at i h =
     ap₂ (λ (a b : ℕ). a + 256 * b) (getD-take n (drop at s) i 0 (omega arith) ∙ getD-drop at s i 0)
     (number-part width n s at (i + 1) (omega arith) ∙ ap (λ (j : ℕ). numberAt width s j) q)
 
-pub value-part : (s : List ℕ) (at n : ℕ) → n ≡ valueWidth → valueAt (part s at n) 0 ≡ valueAt s at
-unfolding valueAt
-value-part s at n q =
-    ap₂ (λ (k p : ℕ). record { kind = k; payload = p })
-    (getD-take n (drop at s) 0 0 (omega arith) ∙ getD-drop at s 0 0 ∙ ap (λ (j : ℕ). getD s j 0) (omega arith)) (number-part payloadWidth n s at 1 (omega arith))
-
 module _ (m : ℕ) (v : Value) (h : wellFormed m v ≡ true) where
   -- a view that is well-formed names one of the m slots
   pub view-inside : (v .kind ≡ readView) ⊎ (v .kind ≡ writeView) → viewed v < m

@@ -33,7 +33,7 @@ length-rows held i (suc n) =
     ∙ omega (arith, length-row (getD held i []), length-rows held (i + 1) n)
 
 -- two parts, one after the other
-pub sets-append : (l : List ℕ) (i : ℕ) (a b : List ℕ) → sets l i (a ++ b) ≡ sets (sets l i a) (i + length a) b
+pub sets-append : {A : Type 0} (l : List A) (i : ℕ) (a b : List A) → sets l i (a ++ b) ≡ sets (sets l i a) (i + length a) b
 sets-append l i [] b = ap (λ (k : ℕ). sets l k b) (sym (add-zero i))
 sets-append l i (v ∷ a) b =
     sets-append (set l i v) (suc i) a b ∙ ap (λ (k : ℕ). sets (sets (set l i v) (suc i) a) k b) e

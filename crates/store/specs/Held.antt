@@ -1,14 +1,13 @@
 -- How the code holds a store, and what its calls answer. Assumes nothing.
-use Prim.Native.Nat.{ℕ, zero, suc, _+_, _*_, _%_, _≤_, _<_}
+use Prim.Native.Nat.{ℕ, zero, suc, _+_, _/_, _%_, _≤_, _<_, min}
 use mathlib.Core.Path.{_≡_}
 use mathlib.Core.Bool.{true}
 use mathlib.Core.List.{List, [], _∷_, _++_}
 use lib.ListN.{getD, replicate}
-use lib.Dec.{leb, eqb}
-use Rattle.lattice.specs.Tests.{_and_}
+use lib.Seq.{sets}
 use Rattle.lattice.specs.Order.{Label, mostPrincipals, good}
 use Rattle.store.specs.declared.Opened.{Opened}
-use Rattle.store.specs.Result.{Result, ok, refuse, require}
+use Rattle.store.specs.Result.{Result, ok, refuse}
 use Rattle.store.specs.Bytes.{numberBytes, table}
 use Rattle.store.specs.Value.{payloadWidth, Slot, opened, emptySlot, slotWidth}
 use Rattle.store.specs.Sheet.{Tables, Opening, ownerOf, mostSlots, nOf, mOf, ownerAt, slotValueAt}
@@ -62,11 +61,10 @@ unfoldable pub rowsBytes : List (List ℕ) → ℕ → ℕ → List ℕ
 rowsBytes held i zero = []
 rowsBytes held i (suc n) = rowBytes (getD held i []) ++ rowsBytes held (i + 1) n
 
--- "12 output not 5 × m bytes", and since document 02, N3: "Output is 9 × m bytes."
-unfoldable pub roomChecked : ℕ → ℕ → Result ℕ (Unit {0})
-roomChecked m room = require (leb m mostSlots and eqb room (slotWidth * m)) 12 (ok tt)
+-- how many of m rows are held, and find room in an output of `room` bytes
+unfoldable pub fitting : ℕ → ℕ → ℕ
+fitting m room = min (min m mostSlots) (room / slotWidth)
 
--- the output after writing m rows of a held store; a refusal leaves it as it was
-unfoldable pub outAfter : Result ℕ (Unit {0}) → List (List ℕ) → ℕ → List ℕ → List ℕ
-outAfter (ok _) held m old = rowsBytes held 0 m
-outAfter (refuse e) held m old = old
+-- the output after writing n rows of a held store; what stands after them stays
+unfoldable pub outAfter : List (List ℕ) → ℕ → List ℕ → List ℕ
+outAfter held n old = sets old 0 (rowsBytes held 0 n)

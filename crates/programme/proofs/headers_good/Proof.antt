@@ -5,7 +5,7 @@ use native.Mathlib.Omega.{arith}
 use Rattle.lattice.specs.Tests.{every}
 use Rattle.lattice.proofs.Tests.{every-more, every-out, every-done}
 use Rattle.programme.specs.Sheet.{headerAt, headerGood}
-use Rattle.programme.proofs.Blocks.{header-fine, header-bad}
+use Rattle.programme.proofs.Checks.{header-fine, header-bad}
 use Rattle.programme.proofs.headers_good.Statement.{statement}
 use Rattle.programme.proofs.headers_good.Tie as tie
 

@@ -1,7 +1,7 @@
 use borrow.Author.Needs.{needs}
 use borrow.Author.Tests.{not-true, not-false}
 use native.Mathlib.Omega.{arith}
-use Rattle.runner.proofs.Runs.{whole-rule, whole-budget, whole-store, whole-start, whole-done}
+use Rattle.runner.proofs.Opened.{whole-rule, whole-budget, whole-store, whole-start, whole-done}
 use Rattle.runner.proofs.run.Statement.{statement}
 use Rattle.runner.proofs.run.Tie as tie
 

@@ -1,0 +1,187 @@
+-- Laws of a programme that was taken in and played: what it needs, and what its end writes. Assumes nothing.
+use Prim.Native.Nat.{ℕ, zero, suc, _+_, _*_, _/_, _≤_, _<_, min}
+use mathlib.Core.Path.{_≡_, refl, sym, ap, ap₂, _∙_}
+use mathlib.Core.List.{List, [], _∷_, _++_}
+use native.Mathlib.Omega.{arith}
+use lib.ListN.{length, getD}
+use Rattle.store.specs.declared.Opened.{Opened}
+use Rattle.store.specs.Result.{Result, ok, refuse, _>>=_, refusedAs}
+use Rattle.store.specs.Value.{Slot, emptySlot, slotWidth, slotBytes, valueBytes}
+use Rattle.store.specs.Sheet.{Tables, Opening, ownerOf, mostSlots, sizesWidth, slotsBytes}
+use Rattle.store.specs.Held.{openedOf, heldOf, rowOf, rowBytes, rowsBytes, fitting, outAfter}
+use Rattle.store.proofs.Result.{not-both}
+use Rattle.store.proofs.Fill.{table-at}
+use Rattle.store.proofs.Written.{length-rows, sets-whole}
+use Rattle.programme.specs.Syntax.{Cmd}
+use Rattle.programme.specs.Code.{readBlock}
+use Rattle.programme.specs.Sheet.{Block, kOf, headerAt, codeOf, inBlock, blockAt, blocksFrom}
+use Rattle.programme.specs.Rows.{Compiled}
+use Rattle.programme.proofs.Starts.{programmed}
+use Rattle.calculus.specs.Rules.{RuleSet}
+use Rattle.calculus.specs.Calculus.{State}
+use Rattle.calculus.specs.Blocks.{Halt, haltAnswer, runBlocks, start}
+use Rattle.calculus.specs.Run.{runProgramme, answerOf, outputOf}
+use Rattle.runner.specs.declared.rules.Judges.{Judges}
+use Rattle.runner.specs.declared.blocks.Ended.{Ended}
+use Rattle.runner.specs.declared.blocks.Ended.the-variants as e
+use Rattle.runner.specs.Held.{StoreHeld}
+use Rattle.runner.specs.Playing.{judgesOf, Played, played, HeadersAt, AllUnder, openingPlace, LeftToPlay, EndedAs, finished, halted, PlaysOn, CanPlayOn}
+use Rattle.runner.specs.Whole.{ComesTo, OpeningHeld, TakenIn, Finishes, CanFinish}
+
+-- the next block of a programme that was read
+pub record Next (slots : ℕ) (p : List ℕ) (n i : ℕ) (bs : List Block) : Type 0 where
+  pub command : Cmd
+  pub rest : List Block
+  pub reads : readBlock slots (codeOf p i) ≡ ok command
+  pub after : blocksFrom slots p n (i + 1) ≡ ok rest
+  pub is : bs ≡ record { header = headerAt p i; command = command } ∷ rest
+
+pub next-block : (slots : ℕ) (p : List ℕ) (n i : ℕ) (bs : List Block) → blocksFrom slots p (suc n) i ≡ ok bs → Next slots p n i bs
+unfolding blocksFrom blockAt refusedAs _>>=_
+next-block slots p n i bs h = go (readBlock slots (codeOf p i)) refl h
+  where
+    rest : (c : Cmd) → readBlock slots (codeOf p i) ≡ ok c → (r : Result _ (List Block)) → blocksFrom slots p n (i + 1) ≡ r
+        → (r >>= λ bs. ok (record { header = headerAt p i; command = c } ∷ bs)) ≡ ok bs → Next slots p n i bs
+    rest c q (ok ds) e x = record { command = c; rest = ds; reads = q; after = e; is = cc }
+    rest c q (refuse d) e x = absurd (not-both _ _ _ x refl)
+
+    go : (r : Result _ Cmd) → readBlock slots (codeOf p i) ≡ r
+        → (refusedAs (inBlock i) r >>= (λ c. ok (record { header = headerAt p i; command = c })) >>= λ b. blocksFrom slots p n (i + 1) >>= λ bs. ok (b ∷ bs)) ≡ ok bs
+        → Next slots p n i bs
+    go (ok c) e x = rest c e (blocksFrom slots p n (i + 1)) refl x
+    go (refuse d) e x = absurd (not-both _ _ _ x refl)
+
+pub none-left : (slots : ℕ) (p : List ℕ) (i : ℕ) (bs : List Block) → blocksFrom slots p zero i ≡ ok bs → bs ≡ []
+unfolding blocksFrom
+none-left slots p i [] h = refl
+none-left slots p i (b ∷ bs) h = absurd (let z : _≡_ {A = ℕ} 0 1 = cc in omega arith)
+
+-- as many blocks as the sheet says, with the sheet's headers
+pub blocks-count : (m : ℕ) (p : List ℕ) (n i : ℕ) (bs : List Block) → blocksFrom m p n i ≡ ok bs → length bs ≡ n
+blocks-count m p zero i bs h = ap length (none-left m p i bs h)
+blocks-count m p (suc n) i bs h = let x = next-block m p n i bs h in ap length (x .is) ∙ ap suc (blocks-count m p n (i + 1) (x .rest) (x .after))
+
+blocks-headers : (few m : ℕ) (p : List ℕ) (n i : ℕ) (bs : List Block) → ((j : ℕ) → j < i + n → headerAt p j .region < few) → blocksFrom m p n i ≡ ok bs → HeadersAt few p i bs
+unfolding HeadersAt
+blocks-headers few m p zero i bs g h = rw (none-left m p i bs h) tt
+blocks-headers few m p (suc n) i bs g h =
+    let x = next-block m p n i bs h in
+    rw (x .is) (refl, g i (omega arith), blocks-headers few m p n (i + 1) (x .rest) (λ j k. g j (omega arith)) (x .after))
+
+-- rows of a held store are its slots in the output
+rows-bytes : (w : Tables) (s : List Slot) (i n : ℕ) → i + n ≤ mostSlots → rowsBytes (heldOf w s) i n ≡ slotsBytes s i n
+unfolding rowsBytes slotsBytes heldOf rowBytes rowOf slotBytes valueBytes
+rows-bytes w s i zero h = refl
+rows-bytes w s i (suc n) h =
+    ap₂ (λ (x y : List ℕ). x ++ y) (ap rowBytes (table-at mostSlots (λ j. rowOf (getD s j emptySlot) (ownerOf w j)) [] i (omega arith)))
+    (rows-bytes w s (i + 1) n (omega arith))
+
+-- an output with room for just m slots is written whole
+written-whole : (held : List (List ℕ)) (m : ℕ) (old : List ℕ) → m ≤ mostSlots → length old ≡ slotWidth * m → outAfter held (fitting m (length old)) old ≡ rowsBytes held 0 m
+unfolding outAfter fitting
+written-whole held m old small room =
+    let n : min (min m mostSlots) (length old / slotWidth) ≡ m = omega arith in
+    rw n (sets-whole old (rowsBytes held 0 m) (room ∙ sym (length-rows held 0 m)))
+
+-- What the end of a run of blocks says
+
+record FinishedAs (w : Tables) (rows : List (List ℕ)) (n : ℕ) (r : Result Halt State) : Type 0 where
+  pub state : State
+  pub held : StoreHeld w (state .store) rows
+  pub count : state .steps ≡ n
+  pub same : r ≡ ok state
+
+ended-finished : {w : Tables} {rows : List (List ℕ)} {n : ℕ} {r : Result Halt State} → EndedAs w rows (e.Finished n) r → FinishedAs w rows n r
+ended-finished (finished {s = s} h c) = record { state = s; held = h; count = c; same = refl }
+
+record HaltedAs (n b o t : ℕ) (r : Result Halt State) : Type 0 where
+  pub halt : Halt
+  pub says : haltAnswer halt ≡ record { number = n; block = b; offset = o; steps = t }
+  pub same : r ≡ refuse halt
+
+ended-halted : {w : Tables} {rows : List (List ℕ)} {n b o t : ℕ} {r : Result Halt State} → EndedAs w rows (e.Halted n b o t) r → HaltedAs n b o t r
+unfolding haltAnswer
+ended-halted (halted {h = h} x y z u) = record { halt = h; says = rw (x, y, z, u); same = refl }
+
+module _ (rules : RuleSet) (budget : ℕ) (o : Opening) (bs : List Block) (held : List (List ℕ)) (old : List ℕ) where
+  abbrev whole : Result Halt State
+  whole = runBlocks (o .tables) rules budget 0 bs (start (o .store))
+
+  finish-comes : (k n : ℕ) (out : List ℕ) → length bs ≡ k → o .tables .slots ≤ mostSlots → length old ≡ slotWidth * o .tables .slots → EndedAs (o .tables) held (e.Finished n) whole
+      → out ≡ outAfter held (fitting (o .tables .slots) (length old)) old
+      → ComesTo (runProgramme rules budget o bs) old out (record { number = 0; block = k; offset = 0; steps = n })
+  unfolding runProgramme answerOf outputOf refusedAs _>>=_
+  finish-comes k n out h small room x q =
+      let f = ended-finished x in
+      rw (f .same)
+      (rw (f .count, h) refl, q ∙ written-whole held (o .tables .slots) old small room ∙ ap (λ (y : List (List ℕ)). rowsBytes y 0 (o .tables .slots)) (f .held .same) ∙ rows-bytes (o .tables) (f .state .store) 0 (o .tables .slots) (omega arith))
+
+  halt-comes : (n b p t : ℕ) → EndedAs (o .tables) held (e.Halted n b p t) whole
+      → ComesTo (runProgramme rules budget o bs) old old (record { number = n; block = b; offset = p; steps = t })
+  unfolding runProgramme answerOf outputOf refusedAs _>>=_
+  halt-comes n b p t x = let h = ended-halted x in rw (h .same) (sym (h .says), refl)
+
+-- an opened store and a programme that was taken in can be played
+module _ (o : Opening) (t : Opened) (held : List (List ℕ)) (h : OpeningHeld o t held) (j : Judges) (rules : RuleSet) (q : j ≡ judgesOf (ok rules)) (p : List ℕ) (g : Played)
+    (bs : List Block) (x : TakenIn o p (g .tables) bs) (order : g .order ≡ t .table) (judges : g .judges ≡ j) where
+  tables : t .table ≡ o .tables .order
+  unfolding openedOf
+  tables = ap (λ (y : Opened). y .table) (h .opened)
+
+  pub all-under : AllUnder (o .tables) rules g
+  all-under = record { grounds = h .grounds; order = sym (order ∙ tables); judges = judges ∙ q }
+
+  pub left-all : (k : ℕ) → k ≡ kOf p → LeftToPlay (o .tables) rules g p k openingPlace held (runBlocks (o .tables) rules (g .budget) 0 bs (start (o .store)))
+  unfolding start
+  left-all k e =
+      let y = programmed _ _ p bs (x .sheet) in
+      record {
+        rest = bs;
+        count = omega (arith, e, blocks-count _ p (kOf p) 0 bs (y .reads));
+        headers = blocks-headers _ _ p (kOf p) 0 bs (λ i l. y .headers i (omega arith)) (y .reads);
+        operand = 0;
+        stand = x .stand;
+        state = start (o .store);
+        store-held = h .store-held;
+        steps = refl;
+        kept = omega arith;
+        means = refl;
+      }
+
+  pub sheet-room : sizesWidth + kOf p ≤ length p
+  sheet-room = let y = programmed _ _ p bs (x .sheet) in omega (arith, y .lengths .size)
+
+-- What the end of the blocks says of the run, for whatever opening and programme stand behind
+module _ (t : Opened) (j : Judges) (budget : ℕ) (p : List ℕ) (tables : Compiled) (held : List (List ℕ)) (k : ℕ) (q : k ≡ kOf p) where
+  abbrev by : Played
+  by = played tables (t .table) j budget
+
+  pub finish-can : CanFinish t j p tables held → CanPlayOn by p k openingPlace held
+  finish-can c =
+      let s = c .start in
+      let o = s .opening in
+      record {
+        tables = o .tables;
+        rules = s .rules;
+        under = all-under o t held (s .opening-held) j (s .rules) (s .judges) p by (c .blocks) (c .taken) refl refl;
+        whole = _;
+        left = left-all o t held (s .opening-held) j (s .rules) (s .judges) p by (c .blocks) (c .taken) refl refl k q;
+        sheet = rw q (sheet-room o t held (s .opening-held) j (s .rules) (s .judges) p by (c .blocks) (c .taken) refl refl);
+      }
+
+  module _ (held′ : List (List ℕ)) (old : List ℕ) where
+    module _ (rules : RuleSet) (o : Opening) (bs : List Block) (h : OpeningHeld o t held) (d : j ≡ judgesOf (ok rules)) (x : TakenIn o p tables bs) (r : Ended) (f : PlaysOn by p k openingPlace held held′ r) where
+      ended : EndedAs (o .tables) held′ r (runBlocks (o .tables) rules budget 0 bs (start (o .store)))
+      ended = f (o .tables) rules _ (all-under o t held h j rules d p by bs x refl refl) (left-all o t held h j rules d p by bs x refl refl k q)
+
+    pub finish-done : (n : ℕ) (out : List ℕ) → PlaysOn by p k openingPlace held held′ (e.Finished n) → out ≡ outAfter held′ (fitting (t .slots) (length old)) old
+        → Finishes t j budget p tables held old out (record { number = 0; block = k; offset = 0; steps = n })
+    unfolding openedOf
+    finish-done n out f w rules o bs h d x room =
+        let slots : t .slots ≡ o .tables .slots = ap (λ (z : Opened). z .slots) (h .opened) in
+        let y = programmed _ _ p bs (x .sheet) in
+        finish-comes rules budget o bs held′ old k n out (blocks-count _ p (kOf p) 0 bs (y .reads) ∙ sym q) (h .small) room (ended rules o bs h d x (e.Finished n) f) (rw slots at w)
+
+    pub finish-halt : (n b i m : ℕ) → PlaysOn by p k openingPlace held held′ (e.Halted n b i m)
+        → Finishes t j budget p tables held old old (record { number = n; block = b; offset = i; steps = m })
+    finish-halt n b i m f rules o bs h d x room = halt-comes rules budget o bs held′ old n b i m (ended rules o bs h d x (e.Halted n b i m) f)

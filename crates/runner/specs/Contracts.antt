@@ -1,0 +1,94 @@
+-- What the machine's parts ensure, one relation each: for every setting and store that stands behind their numbers. Assumes nothing.
+use Prim.Native.Nat.{ℕ}
+use mathlib.Core.Path.{_≡_}
+use mathlib.Core.Bool.{Bool, true}
+use mathlib.Core.List.{List}
+use lib.ListN.{getD}
+use Rattle.lattice.specs.Order.{Label}
+use Rattle.store.specs.Value.{wellFormed, emptySlot}
+use Rattle.store.specs.Sheet.{Tables, ownerOf, mostSlots}
+use Rattle.store.specs.Held.{rowOf}
+use Rattle.programme.specs.Syntax.{Expr}
+use Rattle.calculus.specs.Rules.{labelsJudged}
+use Rattle.calculus.specs.Calculus.{Setting, Store, Labelled, Write, mayHold, eval, judge, permit, assignment, reliable, written}
+use Rattle.runner.specs.declared.rules.Terms.{Terms}
+use Rattle.runner.specs.Answers.{Got, Judging, Making}
+use Rattle.runner.specs.Held.{LabelHeld, Serves, StoreHeld, ValueHeld, EvaluatedAs, JudgedAs, MadeAs}
+use Rattle.runner.specs.Running.{OperandAt}
+
+-- What is judged by: the terms, the masks and the held store
+pub record Grounds : Type 0 where
+  pub terms : Terms
+  pub masks : List ℕ
+  pub store : List (List ℕ)
+
+abbrev pub grounds : Terms → List ℕ → List (List ℕ) → Grounds
+grounds terms masks store = record { terms = terms; masks = masks; store = store }
+
+-- a setting and a store stand behind them
+pub record Behind (g : Grounds) (w : Setting) (s : Store) : Type 0 where
+  pub serves : Serves w (g .terms) (g .masks)
+  pub held : StoreHeld (w .tables) s (g .store)
+
+-- some do
+pub record CanJudge (g : Grounds) : Type 0 where
+  pub setting : Setting
+  pub store : Store
+  pub behind : Behind g setting store
+
+-- the operands' tables
+pub record Operands : Type 0 where
+  pub heads : List (List ℕ)
+  pub payloads : List ℕ
+
+abbrev pub operandsOf : List (List ℕ) → List ℕ → Operands
+operandsOf heads payloads = record { heads = heads; payloads = payloads }
+
+-- operand o is an expression's
+abbrev pub IsExpr : Operands → ℕ → Expr → Type 0
+IsExpr t o e = OperandAt (t .heads) (t .payloads) o e
+
+pub record SomeExpr (t : Operands) (o : ℕ) : Type 0 where
+  pub expr : Expr
+  pub is : IsExpr t o expr
+
+-- a slot's row is read
+abbrev pub RowRead : List (List ℕ) → ℕ → List ℕ → Type 0
+RowRead held slot r = (w : Tables) (s : Store) → StoreHeld w s held → r ≡ rowOf (getD s slot emptySlot) (ownerOf w slot)
+
+-- rule 1's test of a value
+abbrev pub Admits : Grounds → ℕ → ℕ → Bool → Type 0
+Admits g kind payload r = (w : Setting) (s : Store) → Behind g w s → r ≡ mayHold w (record { kind = kind; payload = payload })
+
+-- an expression is evaluated
+abbrev pub Evaluates : Grounds → Operands → ℕ → Got → Type 0
+Evaluates g t o r = (w : Setting) (s : Store) (e : Expr) → Behind g w s → IsExpr t o e → EvaluatedAs (w .tables .order) r (eval w s e)
+
+-- a guard is judged
+abbrev pub JudgesGuard : Grounds → Operands → ℕ → Judging → Type 0
+JudgesGuard g t o r = (w : Setting) (s : Store) (e : Expr) → Behind g w s → IsExpr t o e → JudgedAs (w .tables .order) r (judge w s e)
+
+-- refusal 16's test
+abbrev pub Relies : Terms → ℕ → ℕ → ℕ → ℕ → Bool → Type 0
+Relies terms owner target value branch r =
+    (w : Setting) (masks : List ℕ) (i : ℕ) (x y b : Label) → Serves w terms masks → ownerOf (w .tables) i ≡ owner
+    → LabelHeld (w .tables .order) x target → LabelHeld (w .tables .order) y value → LabelHeld (w .tables .order) b branch
+    → r ≡ reliable w i (labelsJudged (w .rules) x y b)
+
+-- an assignment to a slot is judged: of a value with its label, under the labels of target and branch
+abbrev pub Permits : Grounds → ℕ → ℕ → ℕ → ℕ → ℕ → ℕ → Making → Type 0
+Permits g slot target kind payload value branch r =
+    (w : Setting) (s : Store) (x y : Labelled) (b : Label) → Behind g w s → x .value .payload ≡ slot → LabelHeld (w .tables .order) (x .label) target
+    → ValueHeld (w .tables .order) y kind payload value → LabelHeld (w .tables .order) b branch → MadeAs (w .tables) r (permit w b x y)
+
+-- an assignment is judged, from its operands on
+abbrev pub JudgesAssignment : Grounds → Operands → ℕ → ℕ → ℕ → Making → Type 0
+JudgesAssignment g t target value branch r =
+    (w : Setting) (s : Store) (x y : Expr) (b : Label) → Behind g w s → IsExpr t target x → IsExpr t value y → LabelHeld (w .tables .order) b branch
+    → MadeAs (w .tables) r (assignment w b s x y)
+
+-- a write is put into its slot's row
+abbrev pub PutsWrite : List (List ℕ) → List (List ℕ) → ℕ → ℕ → ℕ → ℕ → Type 0
+PutsWrite held held′ slot kind payload owner =
+    (w : Tables) (s : Store) (x : Write) → StoreHeld w s held → wellFormed mostSlots (x .value) ≡ true → x .slot ≡ slot → x .value .kind ≡ kind
+    → x .value .payload ≡ payload → ownerOf w slot ≡ owner → StoreHeld w (written x s) held′

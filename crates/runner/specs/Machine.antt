@@ -1,0 +1,128 @@
+-- The machine over the compiled tables: what its numbers mean, and what a move and a run from a row ensure. Assumes nothing.
+use Prim.Native.Nat.{ℕ, _+_, _-_, _*_, _≤_, _<_}
+use mathlib.Core.Path.{_≡_}
+use mathlib.Core.Bool.{true, false}
+use mathlib.Core.Logic.{_⊎_}
+use mathlib.Core.List.{List}
+use lib.ListN.{length, getD}
+use lib.Dec.{eqb}
+use Rattle.lattice.specs.declared.Table.{Table}
+use Rattle.lattice.specs.Order.{Label}
+use Rattle.store.specs.Result.{Result}
+use Rattle.programme.specs.Code.{mostDeep}
+use Rattle.programme.specs.Rows.{Compiled, endKind, assignKind, guardKind, jumpKind, mostRows}
+use Rattle.calculus.specs.Calculus.{Setting, State, Stop}
+use Rattle.runner.specs.Answers.{Control}
+use Rattle.runner.specs.declared.rules.Terms.{Terms}
+use Rattle.runner.specs.declared.machine.Ran.{Ran}
+use Rattle.runner.specs.declared.machine.Ran.the-variants as r
+use Rattle.runner.specs.Held.{LabelHeld, Serves, StateHeld, StopsAs, DoneAs}
+use Rattle.runner.specs.Running.{kindAt, offsetAt, Runs}
+
+-- What a run goes by: the terms and the masks, the compiled tables, and the budget
+pub record Given : Type 0 where
+  pub terms : Terms
+  pub masks : List ℕ
+  pub tables : Compiled
+  pub budget : ℕ
+
+abbrev pub given : Terms → List ℕ → Compiled → ℕ → Given
+given terms masks tables budget = record { terms = terms; masks = masks; tables = tables; budget = budget }
+
+-- Where a run stands: the row and the steps done, the branch labels by depth, and the held store
+pub record Place : Type 0 where
+  pub row : ℕ
+  pub steps : ℕ
+  pub labels : List ℕ
+  pub store : List (List ℕ)
+
+abbrev pub place : ℕ → ℕ → List ℕ → List (List ℕ) → Place
+place row steps labels store = record { row = row; steps = steps; labels = labels; store = store }
+
+-- the branch labels, one a depth, are held as masks
+pub record LabelsHeld (t : Table) (l x : List ℕ) : Type 0 where
+  pub room : length l ≡ mostDeep + 1
+  pub size : length x ≡ mostDeep + 1
+  pub same : (i : ℕ) → i ≤ mostDeep → LabelHeld t (getD l i 0) (getD x i 0)
+
+-- from a place on, the block that ends at row `last` comes to `whole`
+pub record GoesOn (w : Setting) (t : Compiled) (last : ℕ) (p : Place) (whole : Result Stop State) : Type 0 where
+  pub labels : List Label
+  pub state : State
+  pub labels-held : LabelsHeld (w .tables .order) labels (p .labels)
+  pub state-held : StateHeld w (p .store) (p .steps) state
+  pub runs : Runs w t last (p .row) labels state whole
+
+-- The budget is spent before the step at a place: a run with a larger one goes on from there.
+pub record Paused (w : Setting) (g : Given) (last : ℕ) (p : Place) (whole : Result Stop State) : Type 0 where
+  pub due : (kindAt (g .tables) (p .row) ≡ assignKind) ⊎ (kindAt (g .tables) (p .row) ≡ guardKind)
+  pub spent : p .steps ≡ g .budget
+  pub goes : GoesOn w (g .tables) last p whole
+
+-- A run was stopped: by 17, and it is paused there; by another number, and that is its end, under any budget.
+pub record Halts (w : Setting) (g : Given) (last number : ℕ) (p : Place) (whole : Result Stop State) : Type 0 where
+  pub paused : number ≡ 17 → Paused w g last p whole
+  pub final : (number ≡ 17 → ⊥) → StopsAs w (p .store) number (offsetAt (g .tables) (p .row)) (p .steps) whole
+
+-- what a move means, with these labels and this store after it
+unfoldable pub Moves : Setting → Given → ℕ → List ℕ → List (List ℕ) → Control → Result Stop State → Type 0
+Moves w g last labels store (Control.On row steps) whole = GoesOn w (g .tables) last (place row steps labels store) whole
+Moves w g last labels store (Control.Stopped number row steps) whole = Halts w g last number (place row steps labels store) whole
+
+-- how many jumps may come before the next step
+unfoldable pub rank : Compiled → ℕ → ℕ
+rank t row = elim (eqb (kindAt t row) jumpKind) [ true ↦ mostRows - row | false ↦ 0 ]
+
+-- Each move lessens the weight.
+unfoldable pub weight : Given → Control → ℕ
+weight g (Control.On row steps) = (g .budget - steps) * (mostRows + 1) + rank (g .tables) row + 1
+weight g (Control.Stopped number row steps) = 0
+
+-- no step is made past the budget, and a step that was refused has its row among the rows
+unfoldable pub Within : ℕ → Control → Type 0
+Within budget (Control.On row steps) = steps ≤ budget
+Within budget (Control.Stopped number row steps) = (steps ≤ budget) × (row < mostRows)
+
+-- What a move from a place ensures, for every setting that it serves, the budget being the machine's or a larger one
+pub record Moved (g : Given) (p : Place) (labels : List ℕ) (store : List (List ℕ)) (x : Control) : Type 0 where
+  pub same : (w : Setting) (last : ℕ) (whole : Result Stop State) → Serves w (g .terms) (g .masks) → g .budget ≤ w .budget
+      → GoesOn w (g .tables) last p whole → Moves w g last labels store x whole
+  pub less : weight g x < weight g (Control.On (p .row) (p .steps))
+  pub within : Within (g .budget) x
+
+-- the machine can go on: something stands behind its numbers
+pub record CanGo (g : Given) (p : Place) : Type 0 where
+  pub setting : Setting
+  pub serves : Serves setting (g .terms) (g .masks)
+  pub enough : g .budget ≤ setting .budget
+  pub last : ℕ
+  pub whole : Result Stop State
+  pub goes : GoesOn setting (g .tables) last p whole
+  pub within : p .steps ≤ g .budget
+
+-- it can take a row: no end row
+pub record CanMove (g : Given) (p : Place) : Type 0 where
+  pub can : CanGo g p
+  pub is : kindAt (g .tables) (p .row) ≡ endKind → ⊥
+
+-- .. nor a jump
+pub record CanTake (g : Given) (p : Place) : Type 0 where
+  pub can : CanMove g p
+  pub is : kindAt (g .tables) (p .row) ≡ jumpKind → ⊥
+
+-- it can take a step at a row of this kind
+pub record CanStep (kind : ℕ) (g : Given) (p : Place) : Type 0 where
+  pub can : CanGo g p
+  pub is : kindAt (g .tables) (p .row) ≡ kind
+  pub left : p .steps < g .budget
+
+-- what a run that ended means: the end of its block, or a stop
+unfoldable pub Ends : Setting → Given → ℕ → List ℕ → List (List ℕ) → Ran → Result Stop State → Type 0
+Ends w g last labels store (r.Done row steps) whole = (row ≡ last) × DoneAs w store steps whole
+Ends w g last labels store (r.Stopped number row at steps) whole =
+    (at ≡ offsetAt (g .tables) row) × Halts w g last number (place row steps labels store) whole
+
+-- What a run from a place ensures, under its own budget and under any larger one: the answer of the whole, or where the whole goes on
+pub record Went (g : Given) (p : Place) (labels : List ℕ) (store : List (List ℕ)) (x : Ran) : Type 0 where
+  pub ends : (w : Setting) (last : ℕ) (whole : Result Stop State) → Serves w (g .terms) (g .masks) → g .budget ≤ w .budget
+      → GoesOn w (g .tables) last p whole → Ends w g last labels store x whole

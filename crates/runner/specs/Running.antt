@@ -1,0 +1,116 @@
+-- What running from a row of the compiled tables comes to. Assumes nothing.
+use Prim.Native.Nat.{ℕ, _+_, _<_, _≤_}
+use mathlib.Core.Path.{_≡_}
+use mathlib.Core.Bool.{Bool, true, false}
+use mathlib.Core.Logic.{_⊎_}
+use mathlib.Core.List.{List, [], _∷_, _++_}
+use lib.ListN.{length, getD, set}
+use Rattle.lattice.specs.Order.{Label, meet}
+use Rattle.store.specs.Result.{Result, ok, _>>=_}
+use Rattle.store.specs.Value.{wellFormed}
+use Rattle.store.specs.Sheet.{mostSlots}
+use Rattle.store.specs.declared.Value.{Value}
+use Rattle.programme.specs.Syntax.{Expr, Cmd, Literals}
+use Rattle.programme.specs.Code.{mostDeep}
+use Rattle.programme.specs.Rows.{Compiled, assignRow, guardRow, jumpRow, endRow, guardKind, literalOf, operandOf, payloadOf, operandsOf, payloadsOf, exprsOf, rowsOf, size, Shallow, mostRows, mostOperands}
+use Rattle.programme.specs.Sheet.{Block}
+use Rattle.calculus.specs.Calculus.{Setting, State, Stop, Judged, Write, judge, assignment, step, counted, performed}
+
+abbrev pub rowAt : Compiled → ℕ → List ℕ
+rowAt t r = getD (t .rows) r []
+
+abbrev pub kindAt : Compiled → ℕ → ℕ
+kindAt t r = getD (rowAt t r) 0 0
+
+-- the offset of a row's command
+abbrev pub offsetAt : Compiled → ℕ → ℕ
+offsetAt t r = getD (rowAt t r) 2 0
+
+-- an operand is an expression's; where its literal is a view, the slot is one that is held
+pub record OperandAt (operands : List (List ℕ)) (payloads : List ℕ) (o : ℕ) (e : Expr) : Type 0 where
+  pub inside : o < mostOperands
+  pub entry : getD operands o [] ≡ operandOf e
+  pub payload : getD payloads o 0 ≡ payloadOf e
+  pub formed : wellFormed mostSlots (literalOf e) ≡ true
+
+-- what a row holds
+pub record AssignAt (t : Compiled) (r depth at : ℕ) (x v : Expr) : Type 0 where
+  pub target : ℕ
+  pub value : ℕ
+  pub holds : rowAt t r ≡ assignRow depth at target value
+  pub early : r < mostRows
+  pub level : depth ≤ mostDeep
+  pub target-is : OperandAt (t .operands) (t .payloads) target x
+  pub value-is : OperandAt (t .operands) (t .payloads) value v
+
+pub record GuardAt (t : Compiled) (r depth at : ℕ) (g : Expr) (other : ℕ) : Type 0 where
+  pub operand : ℕ
+  pub holds : rowAt t r ≡ guardRow depth at operand other
+  pub early : r < mostRows
+  pub level : depth < mostDeep
+  pub operand-is : OperandAt (t .operands) (t .payloads) operand g
+
+-- a jump leads on, or back to a guard, which takes a step
+pub record JumpAt (t : Compiled) (r target : ℕ) : Type 0 where
+  pub holds : rowAt t r ≡ jumpRow target
+  pub early : r < mostRows
+  pub falls : (r < target) ⊎ (kindAt t target ≡ guardKind)
+
+pub record EndAt (t : Compiled) (r : ℕ) : Type 0 where
+  pub holds : rowAt t r ≡ endRow
+  pub early : r < mostRows
+
+-- the row after a guard that passes, or fails
+unfoldable pub next : Bool → ℕ → ℕ → ℕ
+next true r other = r + 1
+next false r other = other
+
+-- Running on from row r of a block that ends at row `last`, with these branch labels by depth, comes to `whole`.
+module _ (w : Setting) (t : Compiled) (last : ℕ) where
+  pub data Runs : ℕ → List Label → State → Result Stop State → Type 0 where
+    ends : {r : ℕ} {l : List Label} {s : State} {whole : Result Stop State} → r ≡ last → EndAt t r → whole ≡ ok s → Runs r l s whole
+    assigns : {r : ℕ} {l : List Label} {s : State} {whole : Result Stop State} (depth at : ℕ) (x v : Expr) (k : Write → Result Stop State)
+        → AssignAt t r depth at x v
+        → whole ≡ (step w at s (assignment w (getD l depth 0) (s .store) x v) >>= k)
+        → ((y : Write) → step w at s (assignment w (getD l depth 0) (s .store) x v) ≡ ok y → Runs (r + 1) l (performed y s) (k y))
+        → Runs r l s whole
+    guards : {r : ℕ} {l : List Label} {s : State} {whole : Result Stop State} (depth at : ℕ) (g : Expr) (other : ℕ) (k : Judged → Result Stop State)
+        → GuardAt t r depth at g other
+        → whole ≡ (step w at s (judge w (s .store) g) >>= k)
+        → ((j : Judged) → step w at s (judge w (s .store) g) ≡ ok j
+        → Runs (next (j .passes) r other) (set l (depth + 1) (meet (w .tables .order) (getD l depth 0) (j .label))) (counted s) (k j))
+        → Runs r l s whole
+    jumps : {r : ℕ} {l : List Label} {s : State} {whole : Result Stop State} (target : ℕ)
+        → JumpAt t r target → Runs target l s whole → Runs r l s whole
+
+-- A list stands in a table, from the i-th entry on
+pub record StandsAt {A : Type 0} (none : A) (table : List A) (i : ℕ) (xs : List A) : Type 0 where
+  pub at : (j : ℕ) → j < length xs → getD table (i + j) none ≡ getD xs j none
+
+-- expressions stand as operands, from operand o on
+pub record ExprsAt (t : Compiled) (o : ℕ) (es : List Expr) : Type 0 where
+  pub heads : StandsAt [] (t .operands) o (operandsOf es)
+  pub payloads : StandsAt 0 (t .payloads) o (payloadsOf es)
+  pub fits : o + length es ≤ mostOperands
+
+-- what the reader made sure of: guards nest no deeper than there are branch labels, and views name slots
+pub record Sound (c : Cmd) : Type 0 where
+  pub shallow : Shallow 0 c
+  pub formed : Literals (λ (v : Value). wellFormed mostSlots v ≡ true) c
+
+-- a block stands in the tables, from row r and operand o on, closed by its end row
+pub record BlockAt (t : Compiled) (r o : ℕ) (c : Cmd) : Type 0 where
+  pub rows : StandsAt [] (t .rows) r (rowsOf c 0 r o ++ (endRow ∷ []))
+  pub exprs : ExprsAt t o (exprsOf c)
+  pub fits : r + size c < mostRows
+  pub sound : Sound c
+
+-- blocks stand there one after the other
+unfoldable pub BlocksAt : Compiled → ℕ → ℕ → List Block → Type 0
+BlocksAt t r o [] = Unit {0}
+BlocksAt t r o (b ∷ bs) = BlockAt t r o (b .command) × BlocksAt t (r + size (b .command) + 1) (o + length (exprsOf (b .command))) bs
+
+-- every block's command is one that the reader lets pass
+unfoldable pub AllSound : List Block → Type 0
+AllSound [] = Unit {0}
+AllSound (b ∷ bs) = Sound (b .command) × AllSound bs
