@@ -7,7 +7,12 @@
  * numbers that a call writes must not overlap each other or a sheet. The calls
  * keep no pointer, take no memory from the heap and hold no state, so threads
  * may call them at the same time over buffers of their own. A call takes about
- * 80 KiB of stack.
+ * 62 KiB of stack.
+ *
+ * A call's time is bounded by the bytes of its sheets and by its budget: the
+ * bytes are gone over once, before the first step, and skips and sequences
+ * cost nothing afterwards. The longest call that was found, of a million steps
+ * with 16 reads each, took 18 ms on an Intel Xeon of 2023.
  *
  * Every input has an answer: any bytes may be passed as a sheet.
  */

@@ -35,8 +35,8 @@ fn narrow(place: usize) -> u32 {
 pub struct Case<'a> {
     pub workload: &'a Workload,
     pub rule: u32,
-    /// The steps of one run.
-    pub steps: u32,
+    /// The steps of one run, by each runner.
+    steps: [u32; 2],
     /// The runs of a repetition, by each runner.
     runs: [u32; 2],
     /// The time of one run in nanoseconds, by each runner.
@@ -49,22 +49,34 @@ impl<'a> Case<'a> {
         let mut case = Case {
             workload,
             rule,
-            steps: 0,
+            steps: [0; 2],
             runs: [1; 2],
             best: [f64::INFINITY; 2],
         };
-        case.steps = case.agreed_steps();
-        case.runs = RUNNERS.map(|runner| case.enough_runs(runner));
+        let budgets = case.budgets();
+        let second = case.agreed_steps(budgets[1]);
+        let proved = if budgets[0] == budgets[1] {
+            second
+        } else {
+            let mut output = vec![0; workload.output];
+            case.play(RUNNERS[0], budgets[0], &mut output).steps
+        };
+        case.steps = [proved, second];
+        case.runs = [0, 1].map(|place| case.enough_runs(RUNNERS[place], budgets[place]));
         case
     }
 
+    fn budgets(&self) -> [u32; 2] {
+        [self.workload.budget, self.workload.second_budget]
+    }
+
     /// The steps of a run, when both runners give the same answer and output.
-    fn agreed_steps(&self) -> u32 {
+    fn agreed_steps(&self, budget: u32) -> u32 {
         const UNTOUCHED: u8 = 0xA5;
         let name = self.workload.name;
         let [(answer, output), (expected, end)] = RUNNERS.map(|runner| {
             let mut output = vec![UNTOUCHED; self.workload.output];
-            (self.play(runner, &mut output), output)
+            (self.play(runner, budget, &mut output), output)
         });
         assert_eq!(answer, expected, "{name}: the answers differ");
         assert_eq!(output, end, "{name}: the outputs differ");
@@ -74,9 +86,9 @@ impl<'a> Case<'a> {
     }
 
     /// How many runs make a repetition long enough.
-    fn enough_runs(&self, runner: Runner) -> u32 {
+    fn enough_runs(&self, runner: Runner, budget: u32) -> u32 {
         let mut runs = 1;
-        while self.time_of(runner, runs) < LEAST {
+        while self.time_of(runner, budget, runs) < LEAST {
             runs *= 2;
         }
         runs
@@ -86,45 +98,53 @@ impl<'a> Case<'a> {
     pub fn repeat(&mut self) {
         for (place, runner) in RUNNERS.into_iter().enumerate() {
             let runs = self.runs[place];
-            let time = self.time_of(runner, runs).as_secs_f64() * 1e9;
+            let time = self
+                .time_of(runner, self.budgets()[place], runs)
+                .as_secs_f64()
+                * 1e9;
             self.best[place] = self.best[place].min(time / f64::from(runs));
         }
     }
 
-    fn time_of(&self, runner: Runner, runs: u32) -> Duration {
+    fn time_of(&self, runner: Runner, budget: u32, runs: u32) -> Duration {
         let mut output = vec![0; self.workload.output];
         let start = Instant::now();
         for _ in 0..runs {
-            black_box(self.play(runner, &mut output));
+            black_box(self.play(runner, budget, &mut output));
         }
         start.elapsed()
     }
 
-    fn play(&self, runner: Runner, output: &mut [u8]) -> Answer {
+    fn play(&self, runner: Runner, budget: u32, output: &mut [u8]) -> Answer {
         let store = black_box(&self.workload.store);
         let programme = black_box(&self.workload.programme);
-        runner(store, programme, self.rule, self.workload.budget, output)
+        runner(store, programme, self.rule, budget, output)
     }
 
     /// The best time of a step or a run by the proved runner, in nanoseconds.
     pub fn proved(&self) -> f64 {
-        self.best[0] / self.units()
+        self.best[0] / self.units(0)
     }
 
     /// The same by the second runner.
     pub fn second(&self) -> f64 {
-        self.best[1] / self.units()
+        self.best[1] / self.units(1)
     }
 
     pub fn ratio(&self) -> f64 {
         self.proved() / self.second()
     }
 
-    fn units(&self) -> f64 {
+    fn units(&self, place: usize) -> f64 {
         match self.workload.unit {
-            Unit::Step => f64::from(self.steps),
+            Unit::Step => f64::from(self.steps[place]),
             Unit::Run => 1.0,
         }
+    }
+
+    /// The proved runner's time of a whole call, in nanoseconds.
+    pub fn call(&self) -> f64 {
+        self.best[0]
     }
 
     /// Whole runs a second, by each runner.

@@ -20,6 +20,9 @@ pub struct Workload {
     pub store: Vec<u8>,
     pub programme: Vec<u8>,
     pub budget: u32,
+    /// The budget of the second runner, and of the run that both must agree
+    /// on: less where its steps may take long.
+    pub second_budget: u32,
     /// The bytes of the output.
     pub output: usize,
 }
@@ -36,6 +39,7 @@ impl Workload {
             store: store_of_one(values)?,
             programme: programme(blocks)?,
             budget: MOST_BUDGET,
+            second_budget: MOST_BUDGET,
             output: values.len() * Value::BYTES,
         })
     }
@@ -137,22 +141,33 @@ fn else_part_skipped(name: &'static str, part: &Command) -> Result<Workload, Bui
     Workload::new(name, &values, &[forever(body)?])
 }
 
-/// (g): the steps that take longest, each in another way.
-pub fn of_long_steps() -> Result<Vec<Workload>, BuildError> {
+/// (g): `while true do skip`, and the same loop with a body of many skips,
+/// each arranged in another way.
+pub fn of_skips() -> Result<(Workload, Vec<Workload>), BuildError> {
     let flat = sequence(&vec![sequence(&vec![skip(); 255])?; 63])?;
     let short = sequence(&[skip(), skip()])?;
     let pairs = sequence(&vec![sequence(&vec![short; 240])?; 17])?;
     let deep = (0..29).try_fold(skip(), |inner, _| sequence(&[inner, skip()]))?;
     let deeply = sequence(&vec![deep; 185])?;
-    Ok(vec![
-        chains_on_both_sides()?,
+    let one = Workload::new("g  a skip a step", &[], &[forever(skip())?])?;
+    let many = vec![
         skips_for_a_step("g  16,065 skips a step", flat)?,
         skips_for_a_step("g  8,160 skips in pairs a step", pairs)?,
         skips_for_a_step("g  5,550 skips 32 deep a step", deeply)?,
+    ];
+    Ok((one, many))
+}
+
+/// (h): the steps that take longest, each in another way.
+pub fn of_long_steps() -> Result<Vec<Workload>, BuildError> {
+    Ok(vec![
+        chains_on_both_sides()?,
+        guards_that_jump()?,
+        many_slots()?,
     ])
 }
 
-/// (f): judging sheets as large as they may be. No step is allowed.
+/// (f): checking sheets as large as they may be. No step is allowed.
 pub fn full_sheets() -> Result<Workload, BuildError> {
     let block = filled(MOST_CODE / MOST_BLOCKS)?;
     Ok(Workload {
@@ -161,6 +176,7 @@ pub fn full_sheets() -> Result<Workload, BuildError> {
         store: full_store()?,
         programme: programme(&vec![block; MOST_BLOCKS])?,
         budget: 0,
+        second_budget: 0,
         output: MOST_SLOTS * Value::BYTES,
     })
 }
@@ -173,14 +189,48 @@ fn chains_on_both_sides() -> Result<Workload, BuildError> {
     values.push(Value::Integer(0));
     let each = assignment(reads(MOST_READS, 0)?, reads(MOST_READS, second)?);
     let body = forever(sequence(&vec![each; 64])?)?;
-    Workload::new("g  8 reads, target and value", &values, &[body])
+    Workload::new("h  8 reads, target and value", &values, &[body])
 }
 
-/// The step that enters most commands: a skip is none, so a guard may stand
-/// for a body full of them.
+/// The row after a step that leads through most jumps: the end of 29 nested
+/// then-parts.
+fn guards_that_jump() -> Result<Workload, BuildError> {
+    const DEEP: usize = 29;
+    let innermost = assign(0, literal(Value::Integer(1)));
+    let other = assign(0, literal(Value::Integer(2)));
+    let body = (0..DEEP).try_fold(innermost, |inner, _| {
+        if_command(literal(Value::Truth(true)), inner, other.clone())
+    })?;
+    Workload::new(
+        "h  29 then-parts end at once",
+        &[Value::Integer(0)],
+        &[forever(body)?],
+    )
+}
+
+/// 720 assignments, each of another slot, so that the tables' rows are not
+/// near each other.
+fn many_slots() -> Result<Workload, BuildError> {
+    let values: Vec<Value> = (0..=u8::MAX)
+        .map(|slot| Value::Integer(slot.into()))
+        .collect();
+    let each = |place: usize| {
+        let slot = (place * 37 % MOST_SLOTS) as u8;
+        assign(slot, read(255 - slot))
+    };
+    let parts = (0..3).map(|part| {
+        let commands: Vec<Command> = (0..240).map(|place| each(240 * part + place)).collect();
+        sequence(&commands)
+    });
+    let body = forever(sequence(&parts.collect::<Result<Vec<_>, _>>()?)?)?;
+    Workload::new("h  720 assignments in a loop", &values, &[body])
+}
+
+/// A guard stands for a body full of skips, which are no steps. The second
+/// runner enters each, so that it is given fewer steps.
 fn skips_for_a_step(name: &'static str, body: Command) -> Result<Workload, BuildError> {
     Ok(Workload {
-        budget: 400,
+        second_budget: 400,
         ..Workload::new(name, &[], &[forever(body)?])?
     })
 }
