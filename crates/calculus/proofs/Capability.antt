@@ -1,7 +1,7 @@
 -- Under capability, where no write view of a protected slot is at hand, none comes up. Assumes nothing.
 use Prim.Native.Nat.{ℕ, _≤_, _<_}
-use mathlib.Core.Path.{_≡_, ap}
-use mathlib.Core.Bool.{true, false≢true}
+use mathlib.Core.Path.{_≡_, sym, ap, _∙_}
+use mathlib.Core.Bool.{true, true≢false, false≢true}
 use mathlib.Core.List.{List}
 use native.Mathlib.Decide.{decLt}
 use native.Mathlib.Omega.{arith}
@@ -16,13 +16,13 @@ use Rattle.store.specs.Sheet.{Tables, Opening, ownerOf}
 use Rattle.store.specs.Held.{Ordered}
 use Rattle.store.proofs.Result.{Post, Any, post-ok, post-at, post-map, post-require, post-bind}
 use Rattle.store.proofs.Opening.{Opens, store-opens}
-use Rattle.programme.specs.Syntax.{Expr, Cmd, LiteralOf, Literals}
+use Rattle.programme.specs.Syntax.{Op, Expr, Cmd, LiteralsOf, Literals}
 use Rattle.programme.specs.Sheet.{Block}
 use Rattle.programme.proofs.Literals.{literals-all, literals-join}
 use Rattle.programme.proofs.Formed.{block-literals}
 use Rattle.programme.proofs.Placed.{IsBlock}
 use Rattle.calculus.specs.Rules.{capability, rulesOf, judgesViews}
-use Rattle.calculus.specs.Calculus.{Setting, Store, State, contents, inRegion, eval, permit, assignment, written, exec}
+use Rattle.calculus.specs.Calculus.{Setting, Store, State, contents, inRegion, gives, eval, permit, assignment, written, exec}
 use Rattle.calculus.specs.Blocks.{setting}
 use Rattle.calculus.specs.Isolation.{withinReach}
 use Rattle.calculus.specs.Run.{Call}
@@ -30,6 +30,7 @@ use Rattle.calculus.specs.Faithful.{Good}
 use Rattle.calculus.specs.Kept.{Spares, SlotsSpare, BlocksSpare, CapabilitySafety}
 use Rattle.calculus.proofs.Rules.{rules-one}
 use Rattle.calculus.proofs.Taint.{Tainted, Principal, Agree, agree-refl, agree-tainted, tainted-down}
+use Rattle.calculus.proofs.Operations.{gives-no-view}
 use Rattle.calculus.proofs.Invariant.{Ends, exec-ends, Slots, written-slots, eval-gives}
 use Rattle.calculus.proofs.Authority.{eval-held}
 use Rattle.calculus.proofs.Kept.{Keeps, keeps-under, protected-kept}
@@ -48,6 +49,10 @@ module _ (w : Tables) (a : Label) where
   spares-low v f spares e =
       cases (below (w .order) (ownerOf w (viewed v)) a) (λ p. p) (λ p. absurd (spares e (record { inside = view-inside v f e; above = p })))
 
+  -- what an operation gives is no write view
+  pub gives-low : (o : Op) (u v : Value) → Low w a (gives o u v)
+  gives-low o u v e = absurd (true≢false (sym e ∙ gives-no-view (omega arith) o u v))
+
 -- protected slots are as in u, and no slot holds a write view of one
 pub record Safe (w : Tables) (a : Label) (u s : Store) : Type 0 where
   pub agree : Agree w a s u
@@ -55,14 +60,14 @@ pub record Safe (w : Tables) (a : Label) (u s : Store) : Type 0 where
 
 -- where no expression gives a write view of a protected slot, all stays safe
 module _ (w : Setting) (a : Label) (u : Store) (P : Value → Type 0)
-    (gives : (s : Store) (e : Expr) → LiteralOf P e → Safe (w .tables) a u s → Post (λ x. Low (w .tables) a (x .value)) Any (eval w s e)) where
-  assigns : (branch : Label) (s : Store) (t v : Expr) → LiteralOf P t → LiteralOf P v → Safe (w .tables) a u s
+    (shows : (s : Store) (e : Expr) → LiteralsOf P e → Safe (w .tables) a u s → Post (λ x. Low (w .tables) a (x .value)) Any (eval w s e)) where
+  assigns : (branch : Label) (s : Store) (t v : Expr) → LiteralsOf P t → LiteralsOf P v → Safe (w .tables) a u s
       → Post (λ x. Safe (w .tables) a u (written x s)) Any (assignment w branch s t v)
   unfolding assignment permit
   assigns branch s t v l k m =
-      post-bind _ _ _ _ _ (gives s t l m) λ x p.
+      post-bind _ _ _ _ _ (shows s t l m) λ x p.
       post-require _ _ _ _ _
-      (λ e. post-bind _ _ _ _ _ (gives s v k m) λ y q.
+      (λ e. post-bind _ _ _ _ _ (shows s v k m) λ y q.
       post-require _ _ _ _ _
       (λ _. post-require _ _ _ _ _
       (λ _. post-ok _ _ _
@@ -96,7 +101,7 @@ module _ (w : Tables) (a : Label) (o : Ordered w) (in-a : Principal w a) (u : St
       (λ s x _ _. gives-within w a o in-a k b (rw (is .header) e) s x) (b .command) (literals-all _ (λ _. tt) (b .command)) _ s m)
       -- outside, neither a literal nor a slot gives one
       (λ e. safe-keeps (setting w capability k b) a u (Low w a)
-      (λ s x l m. eval-gives (Low w a) (setting w capability k b) s x l (m .low)) (b .command)
+      (λ s x l m. eval-gives (Low w a) (setting w capability k b) (gives-low w a) s x l (m .low)) (b .command)
       (low-literals w a p j b is (spare j (is .inside) e (b .command) (is .code))) _ s m)
 
 -- an opening store

@@ -11,14 +11,14 @@ use borrow.Table.Steps.{cases}
 use Rattle.lattice.specs.Tests.{_and_, _or_, _implies_, every, some, find}
 use Rattle.lattice.specs.Order.{Label, bit, inRange, reflexive, antisymmetric, transitive, isMeet, hasMeets, isTop, hasTop, good, meet, top}
 use Rattle.store.specs.Result.{ok, _>>=_, require, refusedAs, inTurn}
-use Rattle.store.specs.Bytes.{part, numberAt, numberBytes, table, filled}
+use Rattle.store.specs.Bytes.{part, numberAt, numberBytes, entries, filled}
 use Rattle.store.specs.declared.Value.{Value}
 use Rattle.store.specs.Value.{readView, writeView, viewed, wellFormed, valueAt, valueBytes, opened, assigned, emptySlot, slotBytes, slotWidth}
 use Rattle.store.specs.Sheet.{ownerOf, mostSlots, orderOf, tablesOf, openingOf, valueWidthIn, valueGood, sizesAllowed, slotChecked, bodyChecked, sheetChecked, storeSheet, slotsBytes}
 use Rattle.store.proofs.Bytes.{bytes-of}
 use Rattle.store.proofs.Result.{Post, Any, post-ok, post-all, post-at, post-map, post-require, post-bind}
 use Rattle.programme.specs.Syntax.{Expr, literal, read, Cmd, cmd, assign}
-use Rattle.programme.specs.Code.{readValue, exprByte, exprBy, readExpr, sorted, cmdByte, readAssign, bodyBy, readBody, readBlock}
+use Rattle.programme.specs.Code.{readValue, exprSorted, exprByte, readLiteral, exprBy, readExpr, sorted, cmdByte, readAssign, bodyBy, readBody, readBlock}
 use Rattle.programme.specs.Sheet.{Block, kOf, headerOf, codeOf, startOf, headerGood, blockAt, blocksFrom, programmeSheet}
 use Rattle.programme.proofs.Placed.{IsBlock}
 use Rattle.calculus.specs.Rules.{RuleSet, capability, rulesOf, judgesViews, judgesRegion, labelsJudged, allAbove}
@@ -114,9 +114,9 @@ old = int 0 ++ int 0 ++ int 0 ++ int 0
 pub chosen-worked : ChosenWorked
 unfolding runProgramme runOpened runUnder run answerOf outputOf
     _and_ _or_ _implies_ every some find bit inRange reflexive antisymmetric transitive isMeet hasMeets isTop hasTop good meet top
-    _>>=_ require refusedAs inTurn numberAt numberBytes table filled wellFormed valueAt valueBytes opened assigned emptySlot slotBytes
+    _>>=_ require refusedAs inTurn numberAt numberBytes entries filled wellFormed valueAt valueBytes opened assigned emptySlot slotBytes
     orderOf tablesOf openingOf valueWidthIn valueGood sizesAllowed slotChecked bodyChecked sheetChecked storeSheet slotsBytes
-    readValue exprByte exprBy readExpr sorted cmdByte readAssign bodyBy readBody readBlock
+    readValue exprSorted exprByte readLiteral exprBy readExpr sorted cmdByte readAssign bodyBy readBody readBlock
     headerOf startOf headerGood blockAt blocksFrom programmeSheet Post
     rulesOf judgesViews judgesRegion labelsJudged allAbove inRegion admit fetch eval authorised reliable permit assignment
     counted written performed step exec execBody runBlocks start

@@ -25,7 +25,7 @@ use Rattle.store.specs.Sheet.{Tables, ownerOf, mostSlots, storeSheet}
 use Rattle.store.proofs.Bytes.{value-read, value-again}
 use Rattle.store.proofs.Opening.{Opens}
 use Rattle.programme.specs.Syntax.{literal, cmd, assign}
-use Rattle.programme.specs.Code.{upTo, readValue, exprBy, readExpr, exprAt, sorted, cmdByte, readAssign, bodyBy, readBody, readBlock}
+use Rattle.programme.specs.Code.{upTo, readValue, readLiteral, exprBy, readExpr, exprAt, sorted, cmdByte, readAssign, bodyBy, readBody, readBlock}
 use Rattle.programme.specs.Sheet.{Block, kOf, endorsedBit, headerOf, startOf, headerGood, blockAt, blocksFrom, programmeSheet}
 use Rattle.programme.proofs.Due.{expr-is-literal}
 use Rattle.calculus.specs.Rules.{RuleSet, accessControl, capability, explicitProvenance, fullProvenance, rulesOf, judgesViews, labelsJudged, allAbove}
@@ -91,7 +91,7 @@ module _ (m : ℕ) (l : m ≤ mostSlots) (v : Value) (h : wellFormed m v ≡ tru
 -- a literal where an expression is due
 literal-read : (m : ℕ) (s : List ℕ) (at : ℕ) (v : Value) → m ≤ mostSlots → getD s at 0 ≡ 0x10 → at + 1 + valueWidth ≤ length s
     → valueAt s (at + 1) ≡ v → wellFormed m v ≡ true → exprAt m s at ≡ upTo (at + 1 + valueWidth) (literal v)
-unfolding readExpr exprBy readValue require _>>=_ valueAt
+unfolding readExpr exprBy readLiteral readValue require _>>=_ valueAt
 literal-read m s at v l b fits e f =
     let k : getD s (at + 1) 0 < kinds = omega (arith, ap (λ (x : Value). x .kind) e, formed-kind m l v f) in
     let x : at < length s = omega arith in

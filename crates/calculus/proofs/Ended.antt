@@ -20,6 +20,7 @@ use Rattle.calculus.specs.Run.{Call, call, FinishedRun}
 use Rattle.calculus.specs.Faithful.{Good, ownRun}
 use Rattle.calculus.specs.Isolation.{Protected}
 use Rattle.calculus.specs.Kept.{ProtectedKept}
+use Rattle.calculus.proofs.Operations.{gives-formed}
 use Rattle.calculus.proofs.Invariant.{Slots, slots-keep}
 use Rattle.calculus.proofs.Good.{good-run}
 use Rattle.calculus.proofs.Faithful.{faithfulness}
@@ -52,7 +53,7 @@ module _ (rule : ℕ) (store : List ℕ) (w : Tables) (s : Store) (sheet : store
   pub end-formed : Slots (λ v. wellFormed (w .slots) v ≡ true) endStore
   end-formed =
       end-keeps (Slots (λ v. wellFormed (w .slots) v ≡ true)) (opens store w s sheet .formed)
-      (λ k j b is. slots-keep _ (setting w (endGood .rules) k b) (b .command) (post-at _ _ _ _ (block-literals _ _) (is .code)) _)
+      (λ k j b is. slots-keep _ (setting w (endGood .rules) k b) (gives-formed (w .slots)) (b .command) (post-at _ _ _ _ (block-literals _ _) (is .code)) _)
 
   -- protected slots that are kept end as they opened
   pub end-kept : (a : Label) → ProtectedKept a endCall (x .old) endGood → (i : ℕ) → Protected w a i

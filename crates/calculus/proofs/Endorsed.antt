@@ -8,11 +8,11 @@ use lib.ListN.{getD}
 use Rattle.lattice.specs.Tests.{_and_, _or_, _implies_, every, some, find}
 use Rattle.lattice.specs.Order.{below, bit, inRange, reflexive, antisymmetric, transitive, isMeet, hasMeets, isTop, hasTop, good, meet, top}
 use Rattle.store.specs.Result.{_>>=_, require, refusedAs, inTurn}
-use Rattle.store.specs.Bytes.{Bytes, numberAt, numberBytes, table, filled}
+use Rattle.store.specs.Bytes.{Bytes, numberAt, numberBytes, entries, filled}
 use Rattle.store.specs.Value.{wellFormed, valueAt, valueBytes, opened, assigned, emptySlot, slotBytes}
 use Rattle.store.specs.Sheet.{ownerOf, orderOf, tablesOf, openingOf, valueWidthIn, valueGood, sizesAllowed, slotChecked, bodyChecked, sheetChecked, storeSheet, slotsBytes}
 use Rattle.store.proofs.Bytes.{bytes-of}
-use Rattle.programme.specs.Code.{readValue, exprByte, exprBy, readExpr, sorted, cmdByte, readAssign, bodyBy, readBody, readBlock}
+use Rattle.programme.specs.Code.{readValue, exprSorted, exprByte, readLiteral, exprBy, readExpr, sorted, cmdByte, readAssign, bodyBy, readBody, readBlock}
 use Rattle.programme.specs.Sheet.{headerOf, startOf, headerGood, blockAt, blocksFrom, programmeSheet}
 use Rattle.calculus.specs.Rules.{rulesOf, judgesViews, judgesRegion, labelsJudged, allAbove}
 use Rattle.calculus.specs.Calculus.{inRegion, admit, fetch, eval, authorised, reliable, permit, assignment, counted, written, performed, step, exec, execBody}
@@ -34,9 +34,9 @@ agree two own e (suc (suc i)) p = absurd (omega (arith, p .inside))
 pub endorsed-worked : EndorsedWorked
 unfolding runProgramme runOpened runUnder run answerOf outputOf
     _and_ _or_ _implies_ every some find bit inRange reflexive antisymmetric transitive isMeet hasMeets isTop hasTop good meet top
-    _>>=_ require refusedAs inTurn numberAt numberBytes table filled wellFormed valueAt valueBytes opened assigned emptySlot slotBytes
+    _>>=_ require refusedAs inTurn numberAt numberBytes entries filled wellFormed valueAt valueBytes opened assigned emptySlot slotBytes
     orderOf tablesOf openingOf valueWidthIn valueGood sizesAllowed slotChecked bodyChecked sheetChecked storeSheet slotsBytes
-    readValue exprByte exprBy readExpr sorted cmdByte readAssign bodyBy readBody readBlock
+    readValue exprSorted exprByte readLiteral exprBy readExpr sorted cmdByte readAssign bodyBy readBody readBlock
     headerOf startOf headerGood blockAt blocksFrom programmeSheet
     rulesOf judgesViews judgesRegion labelsJudged allAbove inRegion admit fetch eval authorised reliable permit assignment
     counted written performed step exec execBody runBlocks start

@@ -7,9 +7,10 @@ use Rattle.store.specs.Result.{Result}
 use Rattle.store.specs.declared.Value.{Value}
 use Rattle.store.specs.Value.{Slot, assigned, emptySlot}
 use Rattle.store.proofs.Result.{Post, Any, post-ok, post-all, post-map, post-require, post-bind}
-use Rattle.programme.specs.Syntax.{Expr, literal, read, Cmd, cmd, Body, skip, assign, seq, if, while, Cmds, nil, cons, LiteralOf, Literals, LiteralsBody, LiteralsAll}
+use Rattle.programme.specs.Syntax.{Op, Expr, literal, read, operation, Cmd, cmd, Body, skip, assign, seq, if, while, Cmds, nil, cons, LiteralsOf, Exprs, ExprsBody, ExprsAll, Literals}
 use Rattle.programme.proofs.Literals.{literals-all}
-use Rattle.calculus.specs.Calculus.{Setting, Store, Write, State, Stop, contents, admit, fetch, eval, judge, permit, assignment, counted, written, performed, step, exec, execBody, execs}
+use Rattle.calculus.specs.Calculus.{Setting, Store, Write, State, Stop, contents, admit, fetch, gives, eval, judge, permit, assignment, counted, written, performed, step, exec, execBody, execs}
+use Rattle.calculus.proofs.Operations.{post-operation}
 use Rattle.calculus.proofs.Steps.{post-choose, post-tried, post-loop}
 
 -- I holds of the store where a command ends, or is stopped
@@ -20,20 +21,20 @@ Ends I r = Post (λ s. I (s .store)) (λ e. I (e .state .store)) r
 -- branch label satisfies C again
 module _ (w : Setting) (P : Value → Type 0) (I : Store → Type 0) (C : Label → Type 0)
     (inside : (branch : Label) (s : Store) (g : Expr) → C branch → Post (λ j. C (meet (w .tables .order) branch (j .label))) Any (judge w s g))
-    (keeps : (branch : Label) (s : Store) (t v : Expr) → C branch → LiteralOf P t → LiteralOf P v → I s
+    (keeps : (branch : Label) (s : Store) (t v : Expr) → C branch → LiteralsOf P t → LiteralsOf P v → I s
     → Post (λ x. I (written x s)) Any (assignment w branch s t v)) where
   guarded : (at : ℕ) (branch : Label) (s : State) (g : Expr) → C branch → I (s .store)
       → Post (λ j. C (meet (w .tables .order) branch (j .label))) (λ e. I (e .state .store)) (step w at s (judge w (s .store) g))
   guarded at branch s g k m = post-tried w at s _ _ _ (post-map _ _ _ _ _ (inside branch (s .store) g k) (λ j c. c) (λ _ _. m)) m
 
   mutual
-    unfolding exec execBody execs performed counted Literals LiteralsBody LiteralsAll
+    unfolding exec execBody execs performed counted Exprs ExprsBody ExprsAll
 
     pub exec-keeps : (c : Cmd) → Literals P c → (branch : Label) → C branch → (s : State) → I (s .store)
         → Ends I (exec w c branch s)
     exec-keeps (cmd at b) l branch k s m = body-keeps b l at branch k s m
 
-    body-keeps : (b : Body) → LiteralsBody P b → (at : ℕ) (branch : Label) → C branch → (s : State) → I (s .store)
+    body-keeps : (b : Body) → ExprsBody (LiteralsOf P) b → (at : ℕ) (branch : Label) → C branch → (s : State) → I (s .store)
         → Ends I (execBody w b at branch s)
     body-keeps skip l at branch k s m = post-ok _ _ _ m
     body-keeps (assign t v) l at branch k s m =
@@ -48,7 +49,7 @@ module _ (w : Setting) (P : Value → Type 0) (I : Store → Type 0) (C : Label 
         post-loop (λ t. I (t .store)) (λ e. I (e .state .store)) (λ _ j. C (meet (w .tables .order) branch (j .label))) _ _ at (λ _ q. q)
         (λ t q. guarded at branch t g k q) (λ t j _ q. q) (λ _ j q t m. exec-keeps c (l .1) _ q t m) (w .budget - s .steps) s m
 
-    execs-keep : (cs : Cmds) → LiteralsAll P cs → (branch : Label) → C branch → (s : State) → I (s .store)
+    execs-keep : (cs : Cmds) → ExprsAll (LiteralsOf P) cs → (branch : Label) → C branch → (s : State) → I (s .store)
         → Ends I (execs w cs branch s)
     execs-keep nil l branch k s m = post-ok _ _ _ m
     execs-keep (cons c cs) l branch k s m = post-bind _ _ _ _ _ (exec-keeps c (l .0) branch k s m) (λ t q. execs-keep cs (l .1) branch k t q)
@@ -56,7 +57,7 @@ module _ (w : Setting) (P : Value → Type 0) (I : Store → Type 0) (C : Label 
 -- where the branch label does not matter
 module _ (w : Setting) (I : Store → Type 0) where
   pub exec-ends : (P : Value → Type 0)
-      → ((branch : Label) (s : Store) (t v : Expr) → LiteralOf P t → LiteralOf P v → I s
+      → ((branch : Label) (s : Store) (t v : Expr) → LiteralsOf P t → LiteralsOf P v → I s
       → Post (λ x. I (written x s)) Any (assignment w branch s t v))
       → (c : Cmd) → Literals P c → (branch : Label) (s : State) → I (s .store) → Ends I (exec w c branch s)
   exec-ends P keeps c l branch s m =
@@ -77,7 +78,7 @@ set-either Q (x ∷ s) zero (suc j) u d p q = q
 set-either Q (x ∷ s) (suc i) zero u d p q = q
 set-either Q (x ∷ s) (suc i) (suc j) u d p q = set-either Q s i j u d p q
 
--- what holds of every literal and of every slot's value
+-- what holds of every literal, of every slot's value and of what operations give
 module _ (F : Value → Type 0) where
   abbrev pub Slots : Store → Type 0
   Slots s = (j : ℕ) → F (contents s j)
@@ -90,15 +91,7 @@ module _ (F : Value → Type 0) where
   written-slots x s p q j = written-slot x s j p (q j)
 
   module _ (w : Setting) where
-    -- holds of every expression's value ..
-    pub eval-gives : (s : Store) (e : Expr) → LiteralOf F e → Slots s → Post (λ x. F (x .value)) Any (eval w s e)
-    unfolding eval fetch admit LiteralOf
-    eval-gives s (literal v) l m = post-require _ _ _ _ _ (λ _. post-ok _ _ _ l) (λ _. tt)
-    eval-gives s (read e) l m =
-        post-bind _ _ _ _ _ (eval-gives s e l m) λ x _.
-        post-require _ _ _ _ _ (λ _. post-require _ _ _ _ _ (λ _. post-ok _ _ _ (m _)) (λ _. tt)) (λ _. tt)
-
-    -- .. of the value that is assigned ..
+    -- holds of the value that is assigned where it holds of the expression's
     pub assignment-gives : (branch : Label) (s : Store) (t v : Expr) → Post (λ x. F (x .value)) Any (eval w s v)
         → Post (λ x. F (x .value)) Any (assignment w branch s t v)
     unfolding assignment permit
@@ -108,8 +101,19 @@ module _ (F : Value → Type 0) where
         (λ _. post-bind _ _ _ _ _ given λ y p.
         post-require _ _ _ _ _ (λ _. post-require _ _ _ _ _ (λ _. post-ok _ _ _ p) (λ _. tt)) (λ _. tt)) (λ _. tt)
 
-    -- .. and of every slot's value, as long as the run goes
-    pub slots-keep : (c : Cmd) → Literals F c → (branch : Label) (s : State) → Slots (s .store) → Ends Slots (exec w c branch s)
-    slots-keep =
-        exec-ends w Slots F
-        (λ branch s t v _ l m. post-map _ _ _ _ _ (assignment-gives branch s t v (eval-gives s v l m)) (λ x p. written-slots x s p m) (λ _ _. tt))
+    module _ (operations : (o : Op) (u v : Value) → F (gives o u v)) where
+      -- holds of every expression's value ..
+      pub eval-gives : (s : Store) (e : Expr) → LiteralsOf F e → Slots s → Post (λ x. F (x .value)) Any (eval w s e)
+      unfolding eval fetch admit LiteralsOf
+      eval-gives s (literal v) l m = post-require _ _ _ _ _ (λ _. post-ok _ _ _ l) (λ _. tt)
+      eval-gives s (read e) l m =
+          post-bind _ _ _ _ _ (eval-gives s e l m) λ x _.
+          post-require _ _ _ _ _ (λ _. post-require _ _ _ _ _ (λ _. post-ok _ _ _ (m _)) (λ _. tt)) (λ _. tt)
+      eval-gives s (operation o e e′) l m =
+          post-operation _ _ _ w s o e e′ (eval-gives s e (l .0) m) (eval-gives s e′ (l .1) m) (λ x y _ _. operations o _ _)
+
+      -- .. and of every slot's value, as long as the run goes
+      pub slots-keep : (c : Cmd) → Literals F c → (branch : Label) (s : State) → Slots (s .store) → Ends Slots (exec w c branch s)
+      slots-keep =
+          exec-ends w Slots F
+          (λ branch s t v _ l m. post-map _ _ _ _ _ (assignment-gives branch s t v (eval-gives s v l m)) (λ x p. written-slots x s p m) (λ _ _. tt))

@@ -13,11 +13,11 @@ use Rattle.store.specs.declared.Value.{Value}
 use Rattle.store.specs.Value.{isWriteView, viewed}
 use Rattle.store.specs.Sheet.{ownerOf}
 use Rattle.store.proofs.Result.{Post, one-value, one-refusal, not-both, post-ok, post-map, post-bind, post-require}
-use Rattle.programme.specs.Syntax.{Expr, literal, read, cmd, assign}
+use Rattle.programme.specs.Syntax.{Expr, literal, read, operation, cmd, assign}
 use Rattle.calculus.specs.Rules.{RuleSet, accessControl, capability, explicitProvenance, fullProvenance, judgesViews, judgesRegion, labelsJudged, allAbove}
-use Rattle.calculus.specs.Calculus.{Setting, Store, Labelled, Judged, inRegion, mayHold, admit, fetch, eval, judge, authorised, reliable, permit, assignment, written}
-use Rattle.calculus.specs.Reduction.{Region, semantics, asks, _⊢⟨_∣_⟩⇓_^_, Val, Deref, _⊢⟨_∣_⟩⇓if_^_, Guard, Code, _⨾_, ⟨_∣_∣_⟩, _⊢_⟶_, If, Else, While-1, While-2, Assign, Config}
-use Rattle.calculus.specs.Forbidden.{_⊢⟨_∣_⟩⇑_, Val-15, Deref-in, Deref-13, Deref-15, Task, judging, assigning, Tries, Tries-if, Tries-while, Tries-assign, _⊢⟨_∣_⟩✗_, Guard-in, Guard-13, Target-in, Target-13, Value-in, Assign-14, Assign-16}
+use Rattle.calculus.specs.Calculus.{Setting, Store, Labelled, Judged, inRegion, mayHold, admit, fetch, operate, eval, judge, authorised, reliable, permit, assignment, written}
+use Rattle.calculus.specs.Reduction.{Region, semantics, asks, _⊢⟨_∣_⟩⇓_^_, Val, Deref, Operate, _⊢⟨_∣_⟩⇓if_^_, Guard, Code, _⨾_, ⟨_∣_∣_⟩, _⊢_⟶_, If, Else, While-1, While-2, Assign, Config}
+use Rattle.calculus.specs.Forbidden.{_⊢⟨_∣_⟩⇑_, Val-15, Deref-in, Deref-13, Deref-15, Left-in, Right-in, Operate-13, Task, judging, assigning, Tries, Tries-if, Tries-while, Tries-assign, _⊢⟨_∣_⟩✗_, Guard-in, Guard-13, Target-in, Target-13, Value-in, Assign-14, Assign-16}
 use Rattle.calculus.specs.Exact.{From13To16}
 
 -- Tests and what they say
@@ -90,16 +90,20 @@ asked w H (assigning pc x y) = assignment w pc H x y >>= λ _. ok tt
 
 module _ (w : Setting) {H : Store} where
   eval-ok : {e : Expr} {v : Value} {l : Label} → regionOf w ⊢⟨ H ∣ e ⟩⇓ v ^ l → eval w H e ≡ ok (record { value = v; label = l })
-  unfolding eval fetch admit require _>>=_
+  unfolding eval fetch operate admit require _>>=_
   eval-ok (Val p) = rw (may-hold w _ .1 p)
   eval-ok (Deref x p q) = rw (eval-ok x, p, may-hold w _ .1 q)
+  eval-ok (Operate x y p) = rw (eval-ok x, eval-ok y, p)
 
   eval-no : {e : Expr} {n : ℕ} → regionOf w ⊢⟨ H ∣ e ⟩⇑ n → eval w H e ≡ refuse n
-  unfolding eval fetch admit require _>>=_
+  unfolding eval fetch operate admit require _>>=_
   eval-no (Val-15 p) = rw (failed _ (may-hold w _) p)
   eval-no (Deref-in x) = rw (eval-no x)
   eval-no (Deref-13 x p) = rw (eval-ok x, p)
   eval-no (Deref-15 x p q) = rw (eval-ok x, p, failed _ (may-hold w _) q)
+  eval-no (Left-in x) = rw (eval-no x)
+  eval-no (Right-in x y) = rw (eval-ok x, eval-no y)
+  eval-no (Operate-13 x y p) = rw (eval-ok x, eval-ok y, p)
 
   judge-ok : {g : Expr} {b : Bool} {l : Label} → regionOf w ⊢⟨ H ∣ g ⟩⇓if b ^ l → judge w H g ≡ ok (record { passes = b; label = l })
   unfolding judge require _>>=_
@@ -150,6 +154,9 @@ module _ {ρ : Region} {H : Store} where
   eval-numbers (Deref-in x) = eval-numbers x
   eval-numbers (Deref-13 x p) = (omega arith, omega arith)
   eval-numbers (Deref-15 x p q) = (omega arith, omega arith)
+  eval-numbers (Left-in x) = eval-numbers x
+  eval-numbers (Right-in x y) = eval-numbers y
+  eval-numbers (Operate-13 x y p) = (omega arith, omega arith)
 
   pub by-rule : {t : Task} {n : ℕ} → ρ ⊢⟨ H ∣ t ⟩✗ n → From13To16 n
   by-rule (Guard-in x) = eval-numbers x
@@ -167,12 +174,16 @@ judged-as (Guard x p q) e = Guard x p (q ∙ e)
 
 module _ (w : Setting) where
   pub evaluates : (H : Store) (e : Expr) → Post (λ x. regionOf w ⊢⟨ H ∣ e ⟩⇓ x .value ^ x .label) (λ n. regionOf w ⊢⟨ H ∣ e ⟩⇑ n) (eval w H e)
-  unfolding eval fetch admit
+  unfolding eval fetch operate admit
   evaluates H (literal v) = post-require _ _ _ _ _ (λ p. post-ok _ _ _ (Val (may-hold w _ .0 p))) (λ p. Val-15 (fails _ (may-hold w _) p))
   evaluates H (read e) =
       post-bind _ _ _ _ _ (post-map _ _ _ _ _ (evaluates H e) (λ x p. p) (λ n p. Deref-in p)) λ x p.
       post-require _ _ _ _ _
       (λ q. post-require _ _ _ _ _ (λ m. post-ok _ _ _ (Deref p q (may-hold w _ .0 m))) (λ m. Deref-15 p q (fails _ (may-hold w _) m))) (λ q. Deref-13 p q)
+  evaluates H (operation o l r) =
+      post-bind _ _ _ _ _ (post-map _ _ _ _ _ (evaluates H l) (λ x p. p) (λ n p. Left-in p)) λ x p.
+      post-bind _ _ _ _ _ (post-map _ _ _ _ _ (evaluates H r) (λ y q. q) (λ n q. Right-in p q)) λ y q.
+      post-require _ _ _ _ _ (λ t. post-ok _ _ _ (Operate p q t)) (λ t. Operate-13 p q t)
 
   pub judges : (H : Store) (g : Expr)
       → Post (λ j. regionOf w ⊢⟨ H ∣ g ⟩⇓if j .passes ^ j .label) (λ n. regionOf w ⊢⟨ H ∣ judging g ⟩✗ n) (judge w H g)

@@ -3,6 +3,7 @@ pub mod While
 pub mod Blocks
 pub mod Rules
 pub mod Refusals
+pub mod Operations
 pub mod Pairs
 pub mod Invariant
 pub mod Taint

@@ -14,9 +14,9 @@ use Rattle.store.specs.Result.{Result}
 use Rattle.store.specs.Sheet.{Tables}
 use Rattle.store.proofs.Result.{Post, post-refuse, post-refused-as}
 use Rattle.programme.specs.Sheet.{Block}
-use Rattle.programme.specs.Syntax.{Expr, literal, read, Cmd, cmd, Body, skip, assign, seq, if, while, Cmds, nil, cons}
+use Rattle.programme.specs.Syntax.{Expr, literal, read, operation, Cmd, cmd, Body, skip, assign, seq, if, while, Cmds, nil, cons}
 use Rattle.calculus.specs.Rules.{RuleSet, labelsJudged}
-use Rattle.calculus.specs.Calculus.{Setting, Store, Labelled, State, Stop, mayHold, admit, fetch, eval, judge, authorised, reliable, permit, assignment, counted, step, loop, exec, execBody, execs}
+use Rattle.calculus.specs.Calculus.{Setting, Store, Labelled, State, Stop, mayHold, admit, fetch, operate, eval, judge, authorised, reliable, permit, assignment, counted, step, loop, exec, execBody, execs}
 use Rattle.calculus.specs.Blocks.{Halt, setting, runBlocks}
 use Rattle.calculus.proofs.Steps.{choose-both, Counted, tick, tried, rounds-count, exec-counts, body-counts, execs-counts}
 use Rattle.calculus.proofs.Blocks.{stopped, halted, run-counts}
@@ -57,9 +57,10 @@ module _ (own : ℕ) (rules′ : RuleSet) (budget′ : ℕ) (w : Setting) (m : M
   admits x = unless-require _ (m .views (x .value)) (λ _. unless-same)
 
   evals : (s : Store) (e : Expr) → Unless Own (eval w s e) (eval w′ s e)
-  unfolding eval fetch
+  unfolding eval fetch operate
   evals s (literal v) = admits _
   evals s (read e) = unless-then (evals s e) (λ x. unless-require _ same-test (λ _. admits _))
+  evals s (operation o l r) = unless-then (evals s l) λ x. unless-then (evals s r) (λ y. unless-same)
 
   judges : (s : Store) (g : Expr) → Unless Own (judge w s g) (judge w′ s g)
   unfolding judge

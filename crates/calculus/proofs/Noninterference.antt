@@ -15,11 +15,12 @@ use Rattle.store.proofs.Pairs.{Post₂, Each, none, more, post₂-ok, post₂-m
 use Rattle.store.specs.Held.{Ordered}
 use Rattle.programme.specs.declared.Header.{Header}
 use Rattle.programme.specs.Sheet.{Block}
-use Rattle.programme.specs.Syntax.{Expr, literal, read, Cmd, cmd, Body, skip, assign, seq, if, while, Cmds, nil, cons}
+use Rattle.programme.specs.Syntax.{Op, Expr, literal, read, operation, Cmd, cmd, Body, skip, assign, seq, if, while, Cmds, nil, cons}
 use Rattle.calculus.specs.Rules.{fullProvenance}
-use Rattle.calculus.specs.Calculus.{Store, Labelled, Judged, Write, State, Stop, inRegion, admit, fetch, eval, judge, authorised, reliable, permit, assignment, counted, written, performed, step, loop, exec, execBody, execs}
+use Rattle.calculus.specs.Calculus.{Store, Labelled, Judged, Write, State, Stop, inRegion, admit, fetch, operate, eval, judge, authorised, reliable, permit, assignment, counted, written, performed, step, loop, exec, execBody, execs}
 use Rattle.calculus.specs.Blocks.{setting, runBlocks}
 use Rattle.calculus.proofs.Steps.{choose-both, post-choose, post-tried, post-loop}
+use Rattle.calculus.proofs.Operations.{post-operation}
 use Rattle.calculus.proofs.Pairs.{post₂-step, post₂-loop, agree, apart}
 use Rattle.calculus.proofs.Taint.{Tainted, Principal, Agree, agree-refl, agree-join, agree-both, agree-tainted, tainted-down, principal-meet, tainted-left, tainted-right, eval-principal}
 use Rattle.calculus.proofs.Confined.{under, reliable-at, judge-label, judge-principal, Harmless, assignment-shut, Like, reach-confined, branch-confined}
@@ -64,9 +65,22 @@ module _ (w : Tables) (a : Label) (o : Ordered w) (in-a : Principal w a) (h : He
       ap (λ (y : Slot). require (is readView (x .value)) 13 (
       admit (under w h b) (record { value = y .value; label = meet (w .order) (x .label) (ownerOf w (viewed (x .value))) }))) e
 
+  -- two operands that both answer the same, or one of them has a tainted label, and then the meet is tainted
+  reads-both : (s : Store) (f : Op) (e e′ : Expr) → Reads s e → Reads s e′ → Reads s (operation f e e′)
+  unfolding eval operate
+  reads-both s f e e′ (tainted k) d =
+      tainted (λ budget t m. post-operation _ _ _ (under w h budget) t f e e′ (k budget t m) (eval-principal (under w h budget) o t e′)
+      (λ x y l p. tainted-left w a o in-a _ _ l p))
+  reads-both s f e e′ (steady r k) (tainted d) =
+      tainted (λ budget t m. post-operation _ _ _ (under w h budget) t f e e′ (eval-principal (under w h budget) o t e) (d budget t m)
+      (λ x y p l. tainted-right w a o in-a _ _ p l))
+  reads-both s f e e′ (steady r k) (steady r′ d) =
+      steady (r >>= λ x. r′ >>= operate (under w h 0) f x) (λ budget t m. rw (k budget t m, d budget t m))
+
   reads : (s : Store) (e : Expr) → Reads s e
   unfolding eval _>>=_ admit inRegion Post
   reads s (literal v) = steady (eval (under w h 0) s (literal v)) (λ budget t m. refl)
+  reads s (operation f e e′) = reads-both s f e e′ (reads s e) (reads s e′)
   reads s (read e) = go (reads s e)
     where
       -- the view is x in every such store: its slot is protected or not

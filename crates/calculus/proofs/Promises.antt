@@ -1,6 +1,7 @@
 -- The promises hold: without any one of these theorems this file is refused. Assumes nothing.
 use Rattle.lattice.proofs.Order.{good-tables}
 use Rattle.store.proofs.Signed.{signed-integers}
+use Rattle.store.proofs.Wrapping.{wrapping-integers}
 use Rattle.programme.proofs.Starts.{running-starts, three-worked}
 use Rattle.calculus.specs.Promises.{Promises}
 use Rattle.calculus.proofs.While.{while-law}
@@ -21,7 +22,7 @@ use Rattle.calculus.proofs.Whole.{whole-worked, whole-run-not-safe}
 use Rattle.calculus.proofs.Chosen.{chosen-worked, not-enough-under-capability}
 use Rattle.calculus.proofs.Endorsed.{endorsed-worked, endorsed-not-isolated}
 use Rattle.calculus.proofs.Unrelated.{unrelated-protected}
-use Rattle.calculus.proofs.Vectors.{vectors-hold, descents-hold, faults-hold, misreadings-hold}
+use Rattle.calculus.proofs.Vectors.{vectors-hold, descents-hold, faults-hold, misreadings-hold, operations-hold}
 
 pub promises : Promises
 promises =
@@ -63,4 +64,6 @@ promises =
       signed-integers = signed-integers;
       running-starts = running-starts;
       three-worked = three-worked;
+      wrapping-integers = wrapping-integers;
+      operations-hold = operations-hold;
     }

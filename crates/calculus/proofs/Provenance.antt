@@ -14,7 +14,7 @@ use Rattle.store.specs.Sheet.{Tables, ownerOf}
 use Rattle.store.specs.Held.{Ordered}
 use Rattle.store.proofs.Result.{Post, Any, post-ok, post-all, post-at, post-map, post-require, post-bind}
 use Rattle.store.proofs.Opening.{store-opens}
-use Rattle.programme.specs.Syntax.{Expr, literal, read, LiteralOf}
+use Rattle.programme.specs.Syntax.{Expr, literal, read, operation, LiteralsOf}
 use Rattle.programme.specs.Sheet.{Block}
 use Rattle.programme.proofs.Placed.{IsBlock}
 use Rattle.calculus.specs.Rules.{explicitProvenance, rulesOf, labelsJudged, allAbove}
@@ -24,10 +24,11 @@ use Rattle.calculus.specs.Isolation.{withinReach}
 use Rattle.calculus.specs.Deputy.{BareBlocksSpare, NoneEndorsedOutside, ProvenanceSafety}
 use Rattle.calculus.proofs.Rules.{rules-one}
 use Rattle.calculus.proofs.Taint.{Tainted, Principal, Agree, agree-refl, agree-tainted, tainted-down, tainted-right, eval-principal}
+use Rattle.calculus.proofs.Operations.{post-operation}
 use Rattle.calculus.proofs.Invariant.{exec-ends}
 use Rattle.calculus.proofs.Authority.{reach-keeps}
 use Rattle.calculus.proofs.Kept.{Keeps, keeps-under, protected-kept}
-use Rattle.calculus.proofs.Capability.{Low, low-literals, low-at}
+use Rattle.calculus.proofs.Capability.{Low, gives-low, low-literals, low-at}
 
 module _ (w : Tables) (a : Label) (o : Ordered w) (in-a : Principal w a) (u : Store)
     (high : (i : ℕ) → below (w .order) (ownerOf w i) a ≡ false → Low w a (contents u i)) where
@@ -42,14 +43,17 @@ module _ (w : Tables) (a : Label) (o : Ordered w) (in-a : Principal w a) (u : St
       cases (below (w .order) (ownerOf w j) a) (λ e. inr (taints e)) (λ e. inl (rw (contents, agree .held j e) (high j e)))
 
   module _ (k : ℕ) (b : Block) (bare : b .header .endorsed ≡ false) where
-    shown : (s : Store) → Agree w a s u → (e : Expr) → LiteralOf (Low w a) e → Post Shown Any (eval (setting w explicitProvenance k b) s e)
-    unfolding eval fetch admit LiteralOf
+    shown : (s : Store) → Agree w a s u → (e : Expr) → LiteralsOf (Low w a) e → Post Shown Any (eval (setting w explicitProvenance k b) s e)
+    unfolding eval fetch admit LiteralsOf
     shown s m (literal v) l = post-require _ _ _ _ _ (λ _. post-ok _ _ _ (inl l)) (λ _. tt)
     shown s m (read e) l =
         post-bind _ _ _ _ _ (eval-principal (setting w explicitProvenance k b) o s e) λ x h.
         post-require _ _ _ _ _
         (λ _. post-require _ _ _ _ _
         (λ _. post-ok _ _ _ (read-shown s m (viewed (x .value)) _ (λ t. tainted-right w a o in-a _ _ h t))) (λ _. tt)) (λ _. tt)
+    shown s m (operation f x y) l =
+        post-operation _ _ _ (setting w explicitProvenance k b) s f x y (shown s m x (l .0)) (shown s m y (l .1))
+        (λ x y _ _. inl (gives-low w a f _ _))
 
     -- the target's label stands at or above the slot's owner
     by-target : (i : ℕ) (x y branch : Label) → reliable (setting w explicitProvenance k b) i (labelsJudged explicitProvenance x y branch) ≡ true
@@ -57,7 +61,7 @@ module _ (w : Tables) (a : Label) (o : Ordered w) (in-a : Principal w a) (u : St
     unfolding reliable labelsJudged allAbove _or_
     by-target i x y branch e = and-l (below (w .order) (ownerOf w i) x) _ (rw bare at e)
 
-    unprotected : (branch : Label) (s : Store) (t v : Expr) → LiteralOf (Low w a) t → Agree w a s u
+    unprotected : (branch : Label) (s : Store) (t v : Expr) → LiteralsOf (Low w a) t → Agree w a s u
         → Post (λ x. Tainted w a (ownerOf w (x .slot))) Any (assignment (setting w explicitProvenance k b) branch s t v)
     unfolding assignment permit
     unprotected branch s t v l m =

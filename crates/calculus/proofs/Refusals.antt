@@ -10,9 +10,9 @@ use Rattle.store.specs.declared.Value.{Value}
 use Rattle.store.specs.Sheet.{Tables}
 use Rattle.store.proofs.Result.{Any, Refuses, post-require, post-refused-as, refuses-ok, refuses-require, refuses-bind, Positive}
 use Rattle.programme.specs.Sheet.{Block}
-use Rattle.programme.specs.Syntax.{Expr, literal, read, Cmd, cmd, Body, skip, assign, seq, if, while, Cmds, nil, cons}
+use Rattle.programme.specs.Syntax.{Expr, literal, read, operation, Cmd, cmd, Body, skip, assign, seq, if, while, Cmds, nil, cons}
 use Rattle.calculus.specs.Rules.{RuleSet, labelsJudged}
-use Rattle.calculus.specs.Calculus.{Setting, Store, Labelled, State, Stop, mayHold, admit, fetch, eval, judge, authorised, reliable, permit, assignment, counted, step, exec, execBody, execs}
+use Rattle.calculus.specs.Calculus.{Setting, Store, Labelled, State, Stop, mayHold, admit, fetch, operate, eval, judge, authorised, reliable, permit, assignment, counted, step, exec, execBody, execs}
 use Rattle.calculus.specs.Blocks.{Halt, setting, runBlocks}
 use Rattle.calculus.proofs.Steps.{post-choose, post-tried, post-loop}
 
@@ -29,9 +29,10 @@ module _ (Q : ℕ → Type 0) (w : Setting) (q : Refusing Q w) where
   admits x = post-require _ _ _ _ _ (λ _. refuses-ok _ _) (q .view (x .value))
 
   evals : (s : Store) (e : Expr) → Refuses Q (eval w s e)
-  unfolding eval fetch
+  unfolding eval fetch operate
   evals s (literal v) = admits _
   evals s (read e) = refuses-bind _ _ _ (evals s e) (λ x. refuses-require _ _ _ _ (q .kind) (admits _))
+  evals s (operation o l r) = refuses-bind _ _ _ (evals s l) λ x. refuses-bind _ _ _ (evals s r) (λ y. refuses-require _ _ _ _ (q .kind) (refuses-ok _ _))
 
   pub judges : (s : Store) (g : Expr) → Refuses Q (judge w s g)
   unfolding judge

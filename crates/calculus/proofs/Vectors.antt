@@ -1,32 +1,35 @@
--- The worked examples hold of the definitions, by computation: P1 to P12, D1 to D26, those of the order in a step and of misreadings. Assumes nothing.
+-- The worked examples hold of the definitions, by computation: P1 to P12, D1 to D26, those of the order in a step, of misreadings and of
+-- operations. Assumes nothing.
 use mathlib.Core.Path.{refl}
 use Rattle.lattice.specs.Tests.{_and_, _or_, _implies_, every, some, find}
 use Rattle.lattice.specs.Order.{bit, inRange, reflexive, antisymmetric, transitive, isMeet, hasMeets, isTop, hasTop, good, meet, top}
 use Rattle.store.specs.Result.{_>>=_, require, refusedAs, inTurn, unplaced}
-use Rattle.store.specs.Bytes.{numberAt, numberBytes, table, filled}
+use Rattle.store.specs.Bytes.{numberAt, numberBytes, entries, filled}
 use Rattle.store.specs.Value.{wellFormed, valueAt, valueBytes, opened, assigned, emptySlot, slotBytes}
+use Rattle.store.specs.Integers.{signed, sumOf, differenceOf, lessOf}
 use Rattle.store.specs.Sheet.{orderOf, tablesOf, openingOf, valueWidthIn, valueGood, sizesAllowed, slotChecked, bodyChecked, sheetChecked, storeSheet, slotsBytes}
-use Rattle.programme.specs.Code.{readValue, exprByte, exprBy, readExpr, sorted, cmdByte, readCmds, readAssign, readSeq, readIf, readWhile, bodyBy, bodyTooDeep, readBody, readBlock}
+use Rattle.programme.specs.Code.{readValue, exprSorted, exprByte, readLiteral, readOperation, exprBy, exprTooDeep, readExpr, sorted, cmdByte, readCmds, readAssign, readSeq, readIf, readWhile, bodyBy, bodyTooDeep, readBody, readBlock}
 use Rattle.programme.specs.Sheet.{headerOf, startOf, headerGood, blockAt, blocksFrom, programmeSheet}
 use Rattle.calculus.specs.Rules.{rulesOf, judgesViews, judgesRegion, labelsJudged, allAbove}
-use Rattle.calculus.specs.Calculus.{inRegion, admit, fetch, eval, judge, authorised, reliable, permit, assignment, counted, written, performed, step, choose, loop, exec, execBody, execs}
+use Rattle.calculus.specs.Calculus.{inRegion, admit, fetch, takes, truthOf, gives, operate, eval, judge, authorised, reliable, permit, assignment, counted, written, performed, step, choose, loop, exec, execBody, execs}
 use Rattle.calculus.specs.Blocks.{haltAnswer, runBlocks, start}
 use Rattle.calculus.specs.Run.{runProgramme, runOpened, runUnder, run, answerOf, outputOf}
 use Rattle.calculus.specs.Vectors.{vectors, VectorsHold}
 use Rattle.calculus.specs.Descents.{from3to2, from2to0, from1to0, larger, unordered, runsOf, DescentsHold}
 use Rattle.calculus.specs.Faults.{faults, FaultsHold}
 use Rattle.calculus.specs.Misreadings.{misreadings, MisreadingsHold}
+use Rattle.calculus.specs.Operations.{four, turns, labels, depths, OperationsHold}
 
-computed : VectorsHold × DescentsHold × FaultsHold × MisreadingsHold
-unfolding vectors from3to2 from2to0 from1to0 larger unordered runsOf faults misreadings runProgramme runOpened runUnder run answerOf outputOf
+computed : VectorsHold × DescentsHold × FaultsHold × MisreadingsHold × OperationsHold
+unfolding vectors from3to2 from2to0 from1to0 larger unordered runsOf faults misreadings four turns labels depths runProgramme runOpened runUnder run answerOf outputOf
     _and_ _or_ _implies_ every some find bit inRange reflexive antisymmetric transitive isMeet hasMeets isTop hasTop good meet top
-    _>>=_ require refusedAs inTurn unplaced numberAt numberBytes table filled wellFormed valueAt valueBytes opened assigned emptySlot slotBytes
-    orderOf tablesOf openingOf valueWidthIn valueGood sizesAllowed slotChecked bodyChecked sheetChecked storeSheet slotsBytes
-    readValue exprByte exprBy readExpr sorted cmdByte readCmds readAssign readSeq readIf readWhile bodyBy bodyTooDeep readBody readBlock
+    _>>=_ require refusedAs inTurn unplaced numberAt numberBytes entries filled wellFormed valueAt valueBytes opened assigned emptySlot slotBytes
+    signed sumOf differenceOf lessOf orderOf tablesOf openingOf valueWidthIn valueGood sizesAllowed slotChecked bodyChecked sheetChecked storeSheet slotsBytes
+    readValue exprSorted exprByte readLiteral readOperation exprBy exprTooDeep readExpr sorted cmdByte readCmds readAssign readSeq readIf readWhile bodyBy bodyTooDeep readBody readBlock
     headerOf startOf headerGood blockAt blocksFrom programmeSheet
-    rulesOf judgesViews judgesRegion labelsJudged allAbove inRegion admit fetch eval judge authorised reliable permit assignment
+    rulesOf judgesViews judgesRegion labelsJudged allAbove inRegion admit fetch takes truthOf gives operate eval judge authorised reliable permit assignment
     counted written performed step choose loop exec execBody execs haltAnswer runBlocks start
-computed = (refl, refl, refl, refl)
+computed = (refl, refl, refl, refl, refl)
 
 pub vectors-hold : VectorsHold
 vectors-hold = computed .0
@@ -39,3 +42,6 @@ faults-hold = computed .2
 
 pub misreadings-hold : MisreadingsHold
 misreadings-hold = computed .3
+
+pub operations-hold : OperationsHold
+operations-hold = computed .4

@@ -10,14 +10,14 @@ use Rattle.lattice.specs.Tests.{_and_, _or_, _implies_, every, some, find}
 use Rattle.lattice.specs.Order.{bit, inRange, reflexive, antisymmetric, transitive, isMeet, hasMeets, isTop, hasTop, good, meet, top}
 use Rattle.lattice.proofs.Tests.{some-at, some-of}
 use Rattle.store.specs.Result.{_>>=_, require, refusedAs, inTurn}
-use Rattle.store.specs.Bytes.{part, numberAt, numberBytes, table, filled}
+use Rattle.store.specs.Bytes.{part, numberAt, numberBytes, entries, filled}
 use Rattle.store.specs.declared.Value.{Value}
 use Rattle.store.specs.Value.{isWriteView, wellFormed, valueAt, valueBytes, opened, assigned, emptySlot, slotBytes, slotWidth, valueWidth}
 use Rattle.store.specs.Sheet.{orderOf, tablesOf, openingOf, valueWidthIn, valueGood, sizesAllowed, slotChecked, bodyChecked, sheetChecked, storeSheet, slotsBytes}
 use Rattle.store.proofs.Bytes.{bytes-of}
 use Rattle.store.proofs.Result.{Post, Any, post-at}
-use Rattle.programme.specs.Syntax.{LiteralOf, Literals, LiteralsBody}
-use Rattle.programme.specs.Code.{readValue, exprByte, exprBy, readExpr, sorted, cmdByte, readAssign, readIf, bodyBy, readBody, readBlock}
+use Rattle.programme.specs.Syntax.{LiteralsOf, Exprs, ExprsBody, Literals}
+use Rattle.programme.specs.Code.{readValue, exprSorted, exprByte, readLiteral, exprBy, readExpr, sorted, cmdByte, readAssign, readIf, bodyBy, readBody, readBlock}
 use Rattle.programme.specs.Sheet.{kOf, headerOf, headerAt, codeOf, startOf, headerGood, blockAt, blocksFrom, programmeSheet}
 use Rattle.programme.proofs.Literals.{literals-join}
 use Rattle.calculus.specs.Rules.{rulesOf, judgesViews, judgesRegion, labelsJudged, allAbove}
@@ -69,10 +69,10 @@ other own own′ = record { count = refl; each = each }
 pub whole-worked : WholeWorked
 unfolding runProgramme runOpened runUnder run answerOf outputOf
     _and_ _or_ _implies_ every some find bit inRange reflexive antisymmetric transitive isMeet hasMeets isTop hasTop good meet top
-    _>>=_ require refusedAs inTurn numberAt numberBytes table filled wellFormed valueAt valueBytes opened assigned emptySlot slotBytes
+    _>>=_ require refusedAs inTurn numberAt numberBytes entries filled wellFormed valueAt valueBytes opened assigned emptySlot slotBytes
     orderOf tablesOf openingOf valueWidthIn valueGood sizesAllowed slotChecked bodyChecked sheetChecked storeSheet slotsBytes
-    readValue exprByte exprBy readExpr sorted cmdByte readAssign readIf bodyBy readBody readBlock
-    headerOf startOf headerGood blockAt blocksFrom programmeSheet Post LiteralOf Literals LiteralsBody
+    readValue exprSorted exprByte readLiteral exprBy readExpr sorted cmdByte readAssign readIf bodyBy readBody readBlock
+    headerOf startOf headerGood blockAt blocksFrom programmeSheet Post LiteralsOf Exprs ExprsBody
     rulesOf judgesViews judgesRegion labelsJudged allAbove inRegion admit fetch eval judge authorised reliable permit assignment
     counted written performed step choose exec execBody runBlocks start
 whole-worked =

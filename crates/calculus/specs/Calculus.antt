@@ -8,10 +8,11 @@ use Rattle.lattice.specs.Tests.{_and_, _or_, _implies_}
 use Rattle.lattice.specs.Order.{Label, below, meet, top}
 use Rattle.store.specs.Result.{Result, ok, refuse, _>>=_, require, refusedAs}
 use Rattle.store.specs.declared.Value.{Value}
-use Rattle.store.specs.Value.{truth, readView, is, isWriteView, viewed, holds, Slot, assigned, emptySlot}
+use Rattle.store.specs.Value.{integer, truth, readView, is, isWriteView, viewed, holds, Slot, assigned, emptySlot}
+use Rattle.store.specs.Integers.{sumOf, differenceOf, lessOf}
 use Rattle.store.specs.Sheet.{Tables, ownerOf}
 use Rattle.programme.specs.declared.Header.{Header}
-use Rattle.programme.specs.Syntax.{Expr, literal, read, Cmd, cmd, Body, skip, assign, seq, if, while, Cmds, nil, cons}
+use Rattle.programme.specs.Syntax.{Op, sum, difference, less, equal, Expr, literal, read, operation, Cmd, cmd, Body, skip, assign, seq, if, while, Cmds, nil, cons}
 use Rattle.calculus.specs.Rules.{RuleSet, judgesViews, judgesRegion, labelsJudged, allAbove}
 
 -- what a block runs under
@@ -51,10 +52,38 @@ fetch w s x =
     require (is readView (x .value)) 13 (
     admit w (record { value = contents s i; label = meet (w .tables .order) (x .label) (ownerOf (w .tables) i) }))
 
--- "a literal gives its value .. Its label: top for a literal"
+-- Operations (document 02, N5): "sum and .. difference of two integers ..; less-than of two integers ..; equal .. for values of any kinds"
+unfoldable pub takes : Op → Value → Value → Bool
+takes sum u v = is integer u and is integer v
+takes difference u v = is integer u and is integer v
+takes less u v = is integer u and is integer v
+takes equal u v = true
+
+abbrev pub integerOf : ℕ → Value
+integerOf p = record { kind = integer; payload = p }
+
+-- "1 truth value (payload 0 false, 1 true)"
+unfoldable pub truthOf : Bool → Value
+truthOf b = record { kind = truth; payload = elim b [ true ↦ 1 | false ↦ 0 ] }
+
+-- "both wrapping at 64 bits"; "less-than .. as signed"; "equal, true when kind and payload agree"
+unfoldable pub gives : Op → Value → Value → Value
+gives sum u v = integerOf (sumOf (u .payload) (v .payload))
+gives difference u v = integerOf (differenceOf (u .payload) (v .payload))
+gives less u v = truthOf (lessOf (u .payload) (v .payload))
+gives equal u v = truthOf (eqb (u .kind) (v .kind) and eqb (u .payload) (v .payload))
+
+-- "then kinds are judged, by 13", and "The label is the meet of both labels." (document 02, N5)
+unfoldable pub operate : Setting → Op → Labelled → Labelled → Result ℕ Labelled
+operate w o x y =
+    require (takes o (x .value) (y .value)) 13 (
+    ok (record { value = gives o (x .value) (y .value); label = meet (w .tables .order) (x .label) (y .label) }))
+
+-- "a literal gives its value .. Its label: top for a literal" "The left one is evaluated first, then the right" (document 02, N5)
 unfoldable pub eval : Setting → Store → Expr → Result ℕ Labelled
 eval w s (literal v) = admit w (record { value = v; label = top (w .tables .order) })
 eval w s (read e) = eval w s e >>= fetch w s
+eval w s (operation o l r) = eval w s l >>= λ x. eval w s r >>= operate w o x
 
 -- Guards
 

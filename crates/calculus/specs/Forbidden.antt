@@ -9,9 +9,9 @@ use Rattle.lattice.specs.Order.{Label}
 use Rattle.store.specs.declared.Value.{Value}
 use Rattle.store.specs.Value.{truth, readView, is, isWriteView, viewed}
 use Rattle.programme.specs.declared.Header.{Header}
-use Rattle.programme.specs.Syntax.{Expr, literal, read, Cmd, cmd, assign, if, while}
+use Rattle.programme.specs.Syntax.{Op, Expr, literal, read, operation, Cmd, cmd, assign, if, while}
 use Rattle.programme.specs.Sheet.{Block}
-use Rattle.calculus.specs.Calculus.{Store, contents, stopAt}
+use Rattle.calculus.specs.Calculus.{Store, contents, takes, stopAt}
 use Rattle.calculus.specs.Blocks.{Halt, haltIn}
 use Rattle.calculus.specs.Reduction.{Region, asks, _⊢⟨_∣_⟩⇓_^_, Code, _⨾_, ⟨_∣_∣_⟩, Stage, during}
 
@@ -23,6 +23,11 @@ pub data _⊢⟨_∣_⟩⇑_ (ρ : Region) (H : Store) : Expr → ℕ → Type 0
   Deref-13 : {e : Expr} {view : Value} {l : Label} → ρ ⊢⟨ H ∣ e ⟩⇓ view ^ l → is readView view ≡ false → ρ ⊢⟨ H ∣ read e ⟩⇑ 13
   Deref-15 : {e : Expr} {view : Value} {l : Label} → ρ ⊢⟨ H ∣ e ⟩⇓ view ^ l → is readView view ≡ true → (asks ρ .value (contents H (viewed view)) → ⊥)
       → ρ ⊢⟨ H ∣ read e ⟩⇑ 15
+  -- "The left one is evaluated first, then the right; then kinds are judged, by 13." (document 02, N5)
+  Left-in : {o : Op} {e e′ : Expr} {n : ℕ} → ρ ⊢⟨ H ∣ e ⟩⇑ n → ρ ⊢⟨ H ∣ operation o e e′ ⟩⇑ n
+  Right-in : {o : Op} {e e′ : Expr} {v : Value} {l : Label} {n : ℕ} → ρ ⊢⟨ H ∣ e ⟩⇓ v ^ l → ρ ⊢⟨ H ∣ e′ ⟩⇑ n → ρ ⊢⟨ H ∣ operation o e e′ ⟩⇑ n
+  Operate-13 : {o : Op} {e e′ : Expr} {v v′ : Value} {l l′ : Label} → ρ ⊢⟨ H ∣ e ⟩⇓ v ^ l → ρ ⊢⟨ H ∣ e′ ⟩⇓ v′ ^ l′ → takes o v v′ ≡ false
+      → ρ ⊢⟨ H ∣ operation o e e′ ⟩⇑ 13
 
 -- "A step is one guard judged or one assignment made; nothing else counts." An assignment is made under a branch label.
 pub data Task : Type 0 where
@@ -48,8 +53,7 @@ pub data _⊢⟨_∣_⟩✗_ (ρ : Region) (H : Store) : Task → ℕ → Type 0
 pub data Tries : List Label → Code → ℕ → Task → Type 0 where
   Tries-if : {pc : Label} {PC : List Label} {at : ℕ} {g : Expr} {c d : Cmd} {k : Code} → Tries (pc ∷ PC) (cmd at (if g c d) ⨾ k) at (judging g)
   Tries-while : {pc : Label} {PC : List Label} {at : ℕ} {g : Expr} {c : Cmd} {k : Code} → Tries (pc ∷ PC) (cmd at (while g c) ⨾ k) at (judging g)
-  Tries-assign : {pc : Label} {PC : List Label} {at : ℕ} {x y : Expr} {k : Code}
-      → Tries (pc ∷ PC) (cmd at (assign x y) ⨾ k) at (assigning pc x y)
+  Tries-assign : {pc : Label} {PC : List Label} {at : ℕ} {x y : Expr} {k : Code} → Tries (pc ∷ PC) (cmd at (assign x y) ⨾ k) at (assigning pc x y)
 
 -- By the rules: a run that may not go on, and how it is stopped. "A forbidden step is not counted."
 pub data Forbidden (ρ : Header → Region) : Stage → Halt → Type 0 where

@@ -20,4 +20,5 @@ pub mod Chosen
 pub mod Descents
 pub mod Faults
 pub mod Misreadings
+pub mod Operations
 pub mod Promises

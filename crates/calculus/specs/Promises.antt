@@ -4,6 +4,7 @@ use Prim.Native.Nat.{ℕ}
 use mathlib.Core.List.{List}
 use Rattle.lattice.specs.Laws.{GoodTables}
 use Rattle.store.specs.Signed.{SignedIntegers}
+use Rattle.store.specs.Integers.{WrappingIntegers}
 use Rattle.programme.specs.Starts.{RunningStarts, ThreeWorked}
 use Rattle.calculus.specs.RuleNumbers.{RuleNumbers}
 use Rattle.calculus.specs.Faithful.{Faithfulness}
@@ -21,6 +22,7 @@ use Rattle.calculus.specs.Chosen.{SufficesUnderCapability, ChosenWorked}
 use Rattle.calculus.specs.Descents.{DescentsHold}
 use Rattle.calculus.specs.Faults.{FaultsHold}
 use Rattle.calculus.specs.Misreadings.{MisreadingsHold}
+use Rattle.calculus.specs.Operations.{OperationsHold}
 
 pub record Promises : Type 0 where
   -- Demand 1, "The table is good when ..": the tests of a table say that it is a partial order with meets and a top
@@ -72,3 +74,6 @@ pub record Promises : Type 0 where
   -- Document 02, N4: the running start of blocks
   pub running-starts : (p : List ℕ) → RunningStarts p
   pub three-worked : ThreeWorked
+  -- Document 02, N5: sums and comparisons
+  pub wrapping-integers : WrappingIntegers
+  pub operations-hold : OperationsHold

@@ -1,9 +1,7 @@
 -- The calculus as rules, with neither budget nor fuel: source 003, figures 2 to 4, with document 01's changes; figure 1 is programme's Syntax.antt.
--- A rule of the source's has its name there, less the prefix (A, C, EP, FP; X for A and C); `Guard`, `Seq`, `End`, `Start` and `Prg-1-silent` are
--- ours. Labels and the stack go along under every rule set: figure 2 has neither, figure 3 no stack. Where the source comes to skip, what stands
--- behind it is left; `done` is a block's last skip. H(r) is `contents`, H[r ↦ v] is `written`. Damaged in our copy, so that document 01 and the
--- source's text decide: in figure 2 the rules of expressions, the premises of A-Assign and C-Assign, what X-while 2 comes to, X-Seq 2, X-Comp 2;
--- in figure 3 EP-Deref, a premise of EP-Assign; in figure 4 FP-while 1, FP-endif, FP-endwhile, FP-Seq 2, FP-Comp 2, FP-Assign. Assumes nothing.
+-- A rule of the source's has its name there, less the prefix (A, C, EP, FP; X for A and C); `Operate`, `Guard`, `Seq`, `End`, `Start` and
+-- `Prg-1-silent` are ours. Labels and the stack go along under every rule set: figure 2 has neither, figure 3 no stack. Where the source comes to
+-- skip, what stands behind it is left; `done` is a block's last skip. H(r) is `contents`, H[r ↦ v] is `written`. Assumes nothing.
 use Prim.Native.Nat.{ℕ, _+_}
 use mathlib.Core.Path.{_≡_}
 use mathlib.Core.Bool.{Bool, true, false}
@@ -13,10 +11,10 @@ use Rattle.store.specs.declared.Value.{Value}
 use Rattle.store.specs.Value.{truth, readView, is, isWriteView, viewed, holds}
 use Rattle.store.specs.Sheet.{Tables, ownerOf}
 use Rattle.programme.specs.declared.Header.{Header}
-use Rattle.programme.specs.Syntax.{Expr, literal, read, Cmd, cmd, skip, assign, seq, if, while, Cmds, nil, cons}
+use Rattle.programme.specs.Syntax.{Op, Expr, literal, read, operation, Cmd, cmd, skip, assign, seq, if, while, Cmds, nil, cons}
 use Rattle.programme.specs.Sheet.{Block}
 use Rattle.calculus.specs.Rules.{RuleSet, accessControl, capability, explicitProvenance, fullProvenance}
-use Rattle.calculus.specs.Calculus.{Store, contents, written}
+use Rattle.calculus.specs.Calculus.{Store, contents, takes, gives, written}
 
 infix 10 _⊢⟨_∣_⟩⇓_^_ _⊢⟨_∣_⟩⇓if_^_ _⊢_⇝_ _⊢_⟶_ _⊩_⟹_
 infixr 30 _⨾_ end⨾_ _⨾⨾_
@@ -58,13 +56,15 @@ semantics fullProvenance ρ =
 abbrev pub asks : Region → Semantics
 asks ρ = semantics (ρ .rules) ρ
 
--- Expressions, ⟨H, e⟩ ⇓ v^ℓ
+-- Expressions, ⟨H, e⟩ ⇓ v^ℓ. Of an operation: "The label is the meet of both labels." (document 02, N5)
 pub data _⊢⟨_∣_⟩⇓_^_ (ρ : Region) (H : Store) : Expr → Value → Label → Type 0 where
   -- "a literal gives its value .. Its label: top for a literal"
   Val : {v : Value} → asks ρ .value v → ρ ⊢⟨ H ∣ literal v ⟩⇓ v ^ top (ρ .tables .order)
   -- "a read needs a read view and gives that slot's present value. Its label: .. the meet of the view's label and the slot's owner."
   Deref : {e : Expr} {view : Value} {l : Label} → ρ ⊢⟨ H ∣ e ⟩⇓ view ^ l → is readView view ≡ true → asks ρ .value (contents H (viewed view))
       → ρ ⊢⟨ H ∣ read e ⟩⇓ contents H (viewed view) ^ meet (ρ .tables .order) l (ownerOf (ρ .tables) (viewed view))
+  Operate : {o : Op} {e e′ : Expr} {v v′ : Value} {l l′ : Label} → ρ ⊢⟨ H ∣ e ⟩⇓ v ^ l → ρ ⊢⟨ H ∣ e′ ⟩⇓ v′ ^ l′ → takes o v v′ ≡ true
+      → ρ ⊢⟨ H ∣ operation o e e′ ⟩⇓ gives o v v′ ^ meet (ρ .tables .order) l l′
 
 -- "Guard: must be a truth value.": v = tt, or v = ff
 pub data _⊢⟨_∣_⟩⇓if_^_ (ρ : Region) (H : Store) : Expr → Bool → Label → Type 0 where
@@ -95,18 +95,15 @@ pub data _⊢_⇝_ (ρ : Region) : Config → Config → Type 0 where
 -- Counted. "Inside an if-part or a while body it is the meet of the outer one and the guard's label": pc ⊓ ℓ is pushed
 pub data _⊢_⟶_ (ρ : Region) : Config → Config → Type 0 where
   If : {H : Store} {pc l : Label} {PC : List Label} {at : ℕ} {g : Expr} {c d : Cmd} {k : Code}
-      → ρ ⊢⟨ H ∣ g ⟩⇓if true ^ l
-      → ρ ⊢ ⟨ H ∣ pc ∷ PC ∣ cmd at (if g c d) ⨾ k ⟩ ⟶ ⟨ H ∣ meet (ρ .tables .order) pc l ∷ pc ∷ PC ∣ c ⨾ end⨾ k ⟩
+      → ρ ⊢⟨ H ∣ g ⟩⇓if true ^ l → ρ ⊢ ⟨ H ∣ pc ∷ PC ∣ cmd at (if g c d) ⨾ k ⟩ ⟶ ⟨ H ∣ meet (ρ .tables .order) pc l ∷ pc ∷ PC ∣ c ⨾ end⨾ k ⟩
   Else : {H : Store} {pc l : Label} {PC : List Label} {at : ℕ} {g : Expr} {c d : Cmd} {k : Code}
-      → ρ ⊢⟨ H ∣ g ⟩⇓if false ^ l
-      → ρ ⊢ ⟨ H ∣ pc ∷ PC ∣ cmd at (if g c d) ⨾ k ⟩ ⟶ ⟨ H ∣ meet (ρ .tables .order) pc l ∷ pc ∷ PC ∣ d ⨾ end⨾ k ⟩
+      → ρ ⊢⟨ H ∣ g ⟩⇓if false ^ l → ρ ⊢ ⟨ H ∣ pc ∷ PC ∣ cmd at (if g c d) ⨾ k ⟩ ⟶ ⟨ H ∣ meet (ρ .tables .order) pc l ∷ pc ∷ PC ∣ d ⨾ end⨾ k ⟩
   -- "A while whose guard is true runs its body and judges again."; one whose guard is false is over, under the labels that it had
   While-1 : {H : Store} {pc l : Label} {PC : List Label} {at : ℕ} {g : Expr} {c : Cmd} {k : Code}
       → ρ ⊢⟨ H ∣ g ⟩⇓if true ^ l
       → ρ ⊢ ⟨ H ∣ pc ∷ PC ∣ cmd at (while g c) ⨾ k ⟩ ⟶ ⟨ H ∣ meet (ρ .tables .order) pc l ∷ pc ∷ PC ∣ c ⨾ end⨾ cmd at (while g c) ⨾ k ⟩
   While-2 : {H : Store} {pc l : Label} {PC : List Label} {at : ℕ} {g : Expr} {c : Cmd} {k : Code}
-      → ρ ⊢⟨ H ∣ g ⟩⇓if false ^ l
-      → ρ ⊢ ⟨ H ∣ pc ∷ PC ∣ cmd at (while g c) ⨾ k ⟩ ⟶ ⟨ H ∣ pc ∷ PC ∣ k ⟩
+      → ρ ⊢⟨ H ∣ g ⟩⇓if false ^ l → ρ ⊢ ⟨ H ∣ pc ∷ PC ∣ cmd at (while g c) ⨾ k ⟩ ⟶ ⟨ H ∣ pc ∷ PC ∣ k ⟩
   -- "target evaluated first, must be a write view, then the value"; the label of the value is not stored: "Labels are not kept in slots."
   Assign : {H : Store} {pc l l′ : Label} {PC : List Label} {at : ℕ} {x y : Expr} {k : Code} {view v : Value}
       → ρ ⊢⟨ H ∣ x ⟩⇓ view ^ l → isWriteView view ≡ true → ρ ⊢⟨ H ∣ y ⟩⇓ v ^ l′

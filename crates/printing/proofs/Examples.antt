@@ -3,11 +3,11 @@ use mathlib.Core.Path.{refl}
 use Rattle.lattice.specs.Tests.{_and_, _or_, _implies_, every, some, find}
 use Rattle.lattice.specs.Order.{bit, inRange, reflexive, antisymmetric, transitive, isMeet, hasMeets, isTop, hasTop, good, meet, top}
 use Rattle.store.specs.Result.{_>>=_, require, refusedAs, inTurn, unplaced}
-use Rattle.store.specs.Bytes.{numberAt, numberBytes, table, filled}
+use Rattle.store.specs.Bytes.{numberAt, numberBytes, entries, filled}
 use Rattle.store.specs.Value.{wellFormed, valueAt, valueBytes, opened, assigned, emptySlot, slotBytes}
 use Rattle.store.specs.Signed.{negative, magnitude}
 use Rattle.store.specs.Sheet.{orderOf, tablesOf, openingOf, valueWidthIn, valueGood, sizesAllowed, slotChecked, bodyChecked, sheetChecked, storeSheet, slotsBytes}
-use Rattle.programme.specs.Code.{readValue, exprByte, exprBy, readExpr, sorted, cmdByte, readCmds, readAssign, readSeq, readIf, readWhile, bodyBy, bodyTooDeep, readBody, readBlock}
+use Rattle.programme.specs.Code.{readValue, exprSorted, exprByte, readLiteral, exprBy, readExpr, sorted, cmdByte, readCmds, readAssign, readSeq, readIf, readWhile, bodyBy, bodyTooDeep, readBody, readBlock}
 use Rattle.programme.specs.Sheet.{headerOf, startOf, headerGood, blockAt, blocksFrom, programmeSheet}
 use Rattle.calculus.specs.Rules.{rulesOf, judgesViews, judgesRegion, labelsJudged, allAbove}
 use Rattle.calculus.specs.Calculus.{inRegion, admit, fetch, eval, judge, authorised, reliable, permit, assignment, counted, written, performed, step, choose, loop, exec, execBody, execs}
@@ -23,9 +23,9 @@ unfolding inputs decimalWithin field answerFields answerLine payloadField slotLi
     storeLength slotsOf lent printedRun printedSheets printedRead printed
     runProgramme runOpened runUnder run answerOf outputOf
     _and_ _or_ _implies_ every some find bit inRange reflexive antisymmetric transitive isMeet hasMeets isTop hasTop good meet top
-    _>>=_ require refusedAs inTurn unplaced numberAt numberBytes table filled wellFormed valueAt valueBytes opened assigned emptySlot slotBytes
+    _>>=_ require refusedAs inTurn unplaced numberAt numberBytes entries filled wellFormed valueAt valueBytes opened assigned emptySlot slotBytes
     orderOf tablesOf openingOf valueWidthIn valueGood sizesAllowed slotChecked bodyChecked sheetChecked storeSheet slotsBytes
-    readValue exprByte exprBy readExpr sorted cmdByte readCmds readAssign readSeq readIf readWhile bodyBy bodyTooDeep readBody readBlock
+    readValue exprSorted exprByte readLiteral exprBy readExpr sorted cmdByte readCmds readAssign readSeq readIf readWhile bodyBy bodyTooDeep readBody readBlock
     headerOf startOf headerGood blockAt blocksFrom programmeSheet
     rulesOf judgesViews judgesRegion labelsJudged allAbove inRegion admit fetch eval judge authorised reliable permit assignment
     counted written performed step choose loop exec execBody execs haltAnswer runBlocks start

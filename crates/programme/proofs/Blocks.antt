@@ -13,7 +13,7 @@ use Rattle.programme.specs.Syntax.{Cmd}
 use Rattle.programme.specs.Code.{Fault, Read, upTo, mostDeep, readBlock}
 use Rattle.programme.specs.Sheet.{Block, kOf, cOf, codeAt, codeOf, lent, headerAt, blockAt, blocksFrom, checkAnswer}
 use Rattle.programme.specs.Starts.{RunningStart}
-use Rattle.programme.specs.Rows.{operandsOf, payloadsOf, endRow, exprsOf, size, rowsOf, blocksRows, blocksExprs, Compiled, filled, compiled, Kept, exprWidth, guardWidth, rowsIn, operandsIn}
+use Rattle.programme.specs.Rows.{endRow, cmdOperands, size, rowsOf, blocksRows, blocksOperands, Compiled, filled, compiled, Kept, pairWidth, rowsIn, operandsIn}
 use Rattle.programme.specs.Reading.{blockRead, blockEmits, spotAt, BlockReads, CanRead, Stands, Compiles, CompilesTo}
 use Rattle.programme.proofs.Filled.{filled-on, kept-on}
 use Rattle.programme.proofs.Rows.{rows-length}
@@ -24,11 +24,11 @@ use Rattle.programme.proofs.Parts.{Emitted, faultAt, emitted-kept, ende
 
 -- n blocks from the i-th on, in the tables: their first row and operand are given
 unfoldable pub BlocksFilled : List ℕ → ℕ → ℕ → Result Answer (List Block) → Compiled → Compiled → Type 0
-BlocksFilled p row operand (ok bs) old new = new ≡ filled (blocksRows bs row operand) (blocksExprs bs) row operand old
+BlocksFilled p row operand (ok bs) old new = new ≡ filled (blocksRows bs row operand) (blocksOperands bs) row operand old
 BlocksFilled p row operand (refuse a) old new = Kept (rowsIn (cOf p) + kOf p) (operandsIn (cOf p)) old new
 
 -- the answer, and the tables
-pub record Leaves (p : List ℕ) (row operand : ℕ) (q : Result Answer (List Block)) (old new : Compiled) (r : Answer) : Type 0 where
+pub record BlocksLeave (p : List ℕ) (row operand : ℕ) (q : Result Answer (List Block)) (old new : Compiled) (r : Answer) : Type 0 where
   pub same : r ≡ checkAnswer q
   pub filled : BlocksFilled p row operand q old new
 
@@ -36,9 +36,9 @@ pub record Leaves (p : List ℕ) (row operand : ℕ) (q : Result Answer (List Bl
 pub record Compiling (m : ℕ) (p : List ℕ) (k : ℕ) (t₀ : Compiled) (i start row operand : ℕ) (t : Compiled) : Type 0 where
   pub few : i ≤ k
   pub running : RunningStart p i start
-  pub rows : guardWidth * row ≤ 2 * start + guardWidth * i
-  pub operands : exprWidth * operand ≤ start
-  pub rest : (r : Answer) (new : Compiled) → Leaves p row operand (blocksFrom m p (k - i) i) t new r → Leaves p 0 0 (blocksFrom m p k 0) t₀ new r
+  pub rows : pairWidth * row ≤ 2 * start + pairWidth * i
+  pub operands : pairWidth * operand ≤ 2 * start
+  pub rest : (r : Answer) (new : Compiled) → BlocksLeave p row operand (blocksFrom m p (k - i) i) t new r → BlocksLeave p 0 0 (blocksFrom m p k 0) t₀ new r
 
 pub compiling-first : (m : ℕ) (p : List ℕ) (k : ℕ) (t : Compiled) → Compiling m p k t 0 0 0 0 t
 compiling-first m p k t =
@@ -83,22 +83,22 @@ module _ (m : ℕ) (p : List ℕ) where
 
 -- A block's rows and operands, then those of the blocks after it.
 module _ (row operand row′ operand′ : ℕ) (b : Block) (bs : List Block) (old mid new : Compiled) (w : Emitted blockEmits (b .command) row operand row′ operand′ old mid)
-    (f : new ≡ filled (blocksRows bs row′ operand′) (blocksExprs bs) row′ operand′ mid) where
+    (f : new ≡ filled (blocksRows bs row′ operand′) (blocksOperands bs) row′ operand′ mid) where
   abbrev own : List (List ℕ)
   own = rowsOf (b .command) 0 row operand
 
-  block-filled : new ≡ filled (blocksRows (b ∷ bs) row operand) (blocksExprs (b ∷ bs)) row operand old
-  unfolding blocksRows blocksExprs
+  block-filled : new ≡ filled (blocksRows (b ∷ bs) row operand) (blocksOperands (b ∷ bs)) row operand old
+  unfolding blocksRows blocksOperands
   block-filled =
       let e : row′ ≡ row + size (b .command) + 1 = omega (arith, w .rows, length-append own (endRow ∷ []), rows-length (b .command) 0 row operand) in
       f
-      ∙ ap (filled (blocksRows bs row′ operand′) (blocksExprs bs) row′ operand′) (w .tables)
-      ∙ filled-on (own ++ (endRow ∷ [])) (blocksRows bs row′ operand′) (exprsOf (b .command)) (blocksExprs bs) old row row′ operand operand′ (w .rows) (w .operands)
+      ∙ ap (filled (blocksRows bs row′ operand′) (blocksOperands bs) row′ operand′) (w .tables)
+      ∙ filled-on (own ++ (endRow ∷ [])) (blocksRows bs row′ operand′) (cmdOperands (b .command)) (blocksOperands bs) old row row′ operand operand′ (w .rows) (w .operands)
       ∙ rw (append-assoc own (endRow ∷ []) (blocksRows bs row′ operand′), e, w .operands)
 
 leaves-cons : (p : List ℕ) (row operand row′ operand′ : ℕ) (b : Block) (q : Result Answer (List Block)) (old mid new : Compiled) (r : Answer)
     → Emitted blockEmits (b .command) row operand row′ operand′ old mid → row′ ≤ rowsIn (cOf p) + kOf p → operand′ ≤ operandsIn (cOf p)
-    → Leaves p row′ operand′ q mid new r → Leaves p row operand (q >>= λ bs. ok (b ∷ bs)) old new r
+    → BlocksLeave p row′ operand′ q mid new r → BlocksLeave p row operand (q >>= λ bs. ok (b ∷ bs)) old new r
 unfolding BlocksFilled checkAnswer _>>=_
 leaves-cons p row operand row′ operand′ b (ok bs) old mid new r w i j k =
     record { same = k .same; filled = block-filled row operand row′ operand′ b bs old mid new w (k .filled) }
@@ -106,7 +106,7 @@ leaves-cons p row operand row′ operand′ b (refuse a) old mid new r w i j k =
     record { same = k .same; filled = kept-on (emitted-kept blockEmits (b .command) row operand row′ operand′ old mid w _ _ i j) (k .filled) }
 
 -- what all blocks leave is what compiling them says
-leaves-all : (m : ℕ) (p : List ℕ) (k : ℕ) (old new : Compiled) (r : Answer) → Leaves p 0 0 (blocksFrom m p k 0) old new r → CompilesTo p (blocksFrom m p k 0) old new r
+leaves-all : (m : ℕ) (p : List ℕ) (k : ℕ) (old new : Compiled) (r : Answer) → BlocksLeave p 0 0 (blocksFrom m p k 0) old new r → CompilesTo p (blocksFrom m p k 0) old new r
 unfolding BlocksFilled Compiles compiled Post
 leaves-all m p k old new r h = (h .same, go (blocksFrom m p k 0) (blocks-refuse m p k 0) (h .filled))
   where
@@ -118,7 +118,7 @@ leaves-all m p k old new r h = (h .same, go (blocksFrom m p k 0) (blocks-refuse 
 module _ {m : ℕ} {p : List ℕ} {k : ℕ} {t₀ : Compiled} {i start row operand : ℕ} {t : Compiled} (w : Compiling m p k t₀ i start row operand t) where
   -- none is left
   pub compiling-done : k ≤ i → CompilesTo p (blocksFrom m p k 0) t₀ t (unplaced 0)
-  unfolding BlocksFilled checkAnswer filled blocksRows blocksExprs operandsOf payloadsOf
+  unfolding BlocksFilled checkAnswer filled blocksRows blocksOperands
   compiling-done l =
       leaves-all m p k t₀ t (unplaced 0) (w .rest (unplaced 0) t (rw (from-none m p (k - i) i (omega arith)) (record { same = refl; filled = refl })))
 
@@ -152,8 +152,8 @@ module _ {m : ℕ} {p : List ℕ} {k : ℕ} {t₀ : Compiled} {i start row opera
         let e = end-within s in
         let b = s .below in
         let g = s .good .blocks in
-        let u : guardWidth * row′ ≤ 2 * next + guardWidth * (i + 1) = omega (arith, q .rows, v .rows, w .rows) in
-        let o : exprWidth * operand′ ≤ next = omega (arith, q .operands, v .operands, w .operands) in
+        let u : pairWidth * row′ ≤ 2 * next + pairWidth * (i + 1) = omega (arith, q .rows, v .rows, w .rows) in
+        let o : pairWidth * operand′ ≤ 2 * next = omega (arith, q .operands, v .operands, w .operands) in
         record {
           few = omega arith;
           running = s .to;

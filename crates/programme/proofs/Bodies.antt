@@ -9,12 +9,12 @@ use Rattle.store.specs.Result.{_>>=_, require}
 use Rattle.programme.specs.declared.reader.Reading.{Reading}
 use Rattle.programme.specs.declared.reader.Reading.the-variants.{Done, Refused}
 use Rattle.programme.specs.Syntax.{Cmd, assign, if, while}
-use Rattle.programme.specs.Code.{upTo, exprAt, readAssign, readIf, readWhile, readCmd, mostDeep, readBlock}
+use Rattle.programme.specs.Code.{upTo, mostNested, exprAt, readAssign, readIf, readWhile, readCmd, mostDeep, readBlock}
 use Rattle.programme.specs.Rows.{assignRow, guardRow, jumpRow, endRow, Compiled, Kept}
 use Rattle.programme.specs.Reading.{exprEmits, cmdEmits, bodyEmits, readGuarded, guardedEmits, blockRead, blockEmits, spotAt, Limit, limitOf, Reads}
 use Rattle.programme.proofs.Filled.{put, kept-on}
 use Rattle.programme.proofs.Parts.{finished, turned, ended, refused-is, done-kept, refused-kept, went, stopped, followed}
-use Rattle.programme.proofs.Onwards.{Onwards, bytes-on, on-on, expr-on, guard-onwards, guarded-onwards, cmd-onwards}
+use Rattle.programme.proofs.Onwards.{Onwards, bytes-on, on-on, part-on, guard-onwards, guarded-onwards, cmd-onwards}
 use Rattle.programme.proofs.Emission.{assign-emitted, guarded-emitted, while-emitted, bare-emitted, if-emitted, block-emitted}
 use Rattle.programme.proofs.Commands.{while-guarded, if-guarded}
 
@@ -36,7 +36,8 @@ module _ (m : ℕ) (s : List ℕ) (at depth row operand : ℕ) (old mid : Compil
 
   module _ (middle row₁ value : ℕ) (h : x ≡ Done middle row₁ value) where
     pub value-on : Onwards (length s) (spotAt at row operand) (spotAt middle row value)
-    value-on = on-on (bytes-on (length s) at (at + 1) row operand (omega arith) (omega arith)) (expr-on m s (at + 1) row operand _ old mid x y middle row₁ value h)
+    value-on =
+        on-on (bytes-on (length s) at (at + 1) row operand (omega arith) (omega arith)) (part-on m s (at + 1) row operand _ old mid x mostNested 0 y middle row₁ value h)
 
     module _ (new : Compiled) (x₂ : Reading) (y₂ : Reads exprEmits (exprAt m s middle) (limitOf (length s) (spotAt middle row value)) row value mid new x₂) where
       pub value-refused : (n o : ℕ) → x₂ ≡ Refused n o → Reads (bodyEmits at depth) (readAssign m s at) limit row operand old new (Refused n o)

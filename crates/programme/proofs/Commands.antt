@@ -11,7 +11,7 @@ use Rattle.programme.specs.declared.reader.Reading.{Reading}
 use Rattle.programme.specs.declared.reader.Reading.the-variants.{Done, Refused}
 use Rattle.programme.specs.Syntax.{Cmd, cmd, skip, seq, if, while, nil, cons}
 use Rattle.programme.specs.Code.{Fault, Read, upTo, tooDeep, CmdByte, sorted, exprAt, readCmds, readSeq, readIf, readWhile, bodyBy, bodyTooDeep, readBody, readCmd}
-use Rattle.programme.specs.Rows.{operandsOf, payloadsOf, exprsOf, exprsBody, exprsAll, rowsOf, rowsBody, rowsAll, Compiled, filled}
+use Rattle.programme.specs.Rows.{cmdOperands, bodyOperands, allOperands, rowsOf, rowsBody, rowsAll, Compiled, filled}
 use Rattle.programme.specs.Reading.{cmdEmits, bodyEmits, allEmits, readGuarded, spotAt, Limit, limitOf, Reads}
 use Rattle.programme.proofs.Due.{cmd-stands, body-none}
 use Rattle.programme.proofs.Filled.{kept-self}
@@ -44,7 +44,7 @@ pub cmd-by : (m : ℕ) (s : List ℕ) (at depth : ℕ) (limit : Limit) (row oper
     → at < length s → getD s at 0 ≡ b → (deep ≡ 0 → ⊥)
     → Reads (bodyEmits at depth) (bodyBy (sorted b) (readCmd (deep - 1) m s) m s at) limit row operand old new r
     → Reads (cmdEmits depth) (readCmd deep m s at) limit row operand old new r
-unfolding readBody rowsOf exprsOf
+unfolding readBody rowsOf cmdOperands
 cmd-by m s at depth limit row operand old new zero b r h q z k = absurd (z refl)
 cmd-by m s at depth limit row operand old new (suc deep) b r h q z k =
     made (bodyEmits at depth) (cmdEmits depth) limit row operand old new _ (λ x. cmd at (x .tree)) r (λ x. refl) (λ x. refl)
@@ -75,7 +75,7 @@ module _ (inner : ℕ → Result Fault (Read Cmd)) (m : ℕ) (s : List ℕ) (at 
 -- The cases of `readCmds`.
 module _ (depth : ℕ) (f : ℕ → Result Fault (Read Cmd)) (limit : Limit) where
   pub cmds-none : (n at row operand : ℕ) (t : Compiled) → n ≤ 0 → Reads (allEmits depth) (readCmds f n at) limit row operand t t (Done at row operand)
-  unfolding readCmds rowsAll exprsAll filled operandsOf payloadsOf
+  unfolding readCmds rowsAll allOperands filled
   cmds-none zero at row operand t h =
       finished _ _ _ _ _ _ _ _ _ _ nil refl (record { rows = omega arith; operands = omega arith; tables = refl })
   cmds-none (suc n) at row operand t h = absurd (omega arith)
@@ -119,7 +119,7 @@ module _ (depth : ℕ) (f : ℕ → Result Fault (Read Cmd)) (s : List ℕ) (at 
 pub seq-counted : (depth : ℕ) (f : ℕ → Result Fault (Read Cmd)) (s : List ℕ) (at row operand : ℕ) (old new : Compiled) (r : Reading) → at + 1 < length s → 2 ≤ getD s (at + 1) 0
     → Reads (allEmits depth) (readCmds f (getD s (at + 1) 0) (at + 2)) (limitOf (length s) (spotAt (at + 2) row operand)) row operand old new r
     → Reads (bodyEmits at depth) (readSeq f s at) (limitOf (length s) (spotAt at row operand)) row operand old new r
-unfolding readSeq require rowsBody exprsBody
+unfolding readSeq require rowsBody bodyOperands
 seq-counted depth f s at row operand old new r h w a =
     let b = bytes-on (length s) at (at + 2) row operand (omega arith) (omega arith) in
     rw (lt-ltb _ _ h, le-leb _ _ w)
@@ -129,6 +129,6 @@ seq-counted depth f s at row operand old new r h w a =
 -- a skip puts nothing in
 pub skip-read : (at depth next : ℕ) (limit : Limit) (row operand : ℕ) (t : Compiled)
     → Reads (bodyEmits at depth) (upTo next skip) limit row operand t t (Done next row operand)
-unfolding rowsBody exprsBody filled operandsOf payloadsOf
+unfolding rowsBody bodyOperands filled
 skip-read at depth next limit row operand t =
     finished _ _ _ _ _ _ _ _ _ _ skip refl (record { rows = omega arith; operands = omega arith; tables = refl })

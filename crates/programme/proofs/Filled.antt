@@ -1,14 +1,14 @@
 -- Laws of the tables: rows and operands put in one after the other, a row put before those that follow it, and what stays. Assumes nothing.
 use Prim.Native.Nat.{ℕ, suc, _+_, _<_, _≤_}
 use mathlib.Core.Path.{_≡_, refl, ap, _∙_}
-use mathlib.Core.List.{List, [], _∷_, _++_}
+use mathlib.Core.List.{List, [], _∷_, _++_, map-append}
 use native.Mathlib.Numerals.{add-one}
 use native.Mathlib.Omega.{arith}
-use lib.ListN.{length, getD, set}
+use lib.ListN.{length, getD, set, length-map}
 use lib.Seq.{sets, length-sets, getD-set-other, set-comm}
 use Rattle.store.proofs.Written.{sets-append}
-use Rattle.programme.specs.Syntax.{Expr}
-use Rattle.programme.specs.Rows.{operandOf, payloadOf, operandsOf, payloadsOf, Compiled, tablesOf, filled, KeptFrom, Kept}
+use Rattle.programme.specs.declared.Operand.{Operand}
+use Rattle.programme.specs.Rows.{headOf, headsOf, payloadsOf, Compiled, tablesOf, filled, KeptFrom, Kept}
 
 -- A run of entries.
 module _ {A : Type 0} where
@@ -27,67 +27,46 @@ module _ {A : Type 0} where
   sets-past (a ∷ vs) l i j d h =
       sets-past vs (set l i a) (suc i) j d (omega arith) ∙ getD-set-other l i j a d (λ e. omega arith)
 
--- The operands of expressions.
-pub operands-append : (es fs : List Expr) → operandsOf (es ++ fs) ≡ operandsOf es ++ operandsOf fs
-unfolding operandsOf
-operands-append [] fs = refl
-operands-append (e ∷ es) fs = ap (λ (t : List (List ℕ)). operandOf e ∷ t) (operands-append es fs)
-
-pub payloads-append : (es fs : List Expr) → payloadsOf (es ++ fs) ≡ payloadsOf es ++ payloadsOf fs
-unfolding payloadsOf
-payloads-append [] fs = refl
-payloads-append (e ∷ es) fs = ap (λ (t : List ℕ). payloadOf e ∷ t) (payloads-append es fs)
-
-pub operands-length : (es : List Expr) → length (operandsOf es) ≡ length es
-unfolding operandsOf
-operands-length [] = refl
-operands-length (e ∷ es) = ap suc (operands-length es)
-
-pub payloads-length : (es : List Expr) → length (payloadsOf es) ≡ length es
-unfolding payloadsOf
-payloads-length [] = refl
-payloads-length (e ∷ es) = ap suc (payloads-length es)
-
 -- one row put in
 abbrev pub put : ℕ → List ℕ → Compiled → Compiled
 put r a t = tablesOf (set (t .rows) r a) (t .operands) (t .payloads)
 
 -- no rows stand anywhere
-pub filled-none : (es : List Expr) (t : Compiled) (r r′ o : ℕ) → filled [] es r o t ≡ filled [] es r′ o t
+pub filled-none : (xs : List Operand) (t : Compiled) (r r′ o : ℕ) → filled [] xs r o t ≡ filled [] xs r′ o t
 unfolding filled
-filled-none es t r r′ o = refl
+filled-none xs t r r′ o = refl
 
 -- what is filled in after what was filled in
-module _ (rs rs′ : List (List ℕ)) (es es′ : List Expr) (t : Compiled) where
-  pub filled-on : (r r′ o o′ : ℕ) → r′ ≡ r + length rs → o′ ≡ o + length es
-      → filled rs′ es′ r′ o′ (filled rs es r o t) ≡ filled (rs ++ rs′) (es ++ es′) r o t
+module _ (rs rs′ : List (List ℕ)) (xs xs′ : List Operand) (t : Compiled) where
+  pub filled-on : (r r′ o o′ : ℕ) → r′ ≡ r + length rs → o′ ≡ o + length xs
+      → filled rs′ xs′ r′ o′ (filled rs xs r o t) ≡ filled (rs ++ rs′) (xs ++ xs′) r o t
   unfolding filled
   filled-on r r′ o o′ p q =
       rw (
         p,
         q,
         sets-append (t .rows) r rs rs′,
-        operands-append es es′,
-        payloads-append es es′,
-        sets-append (t .operands) o (operandsOf es) (operandsOf es′),
-        sets-append (t .payloads) o (payloadsOf es) (payloadsOf es′),
-        operands-length es,
-        payloads-length es,
+        map-append headOf xs xs′,
+        map-append (λ (x : Operand). x .payload) xs xs′,
+        sets-append (t .operands) o (headsOf xs) (headsOf xs′),
+        sets-append (t .payloads) o (payloadsOf xs) (payloadsOf xs′),
+        length-map xs headOf,
+        length-map xs (λ (x : Operand). x .payload),
       )
 
-module _ (rs : List (List ℕ)) (es : List Expr) (t : Compiled) (r o : ℕ) (a : List ℕ) where
+module _ (rs : List (List ℕ)) (xs : List Operand) (t : Compiled) (r o : ℕ) (a : List ℕ) where
   -- a row put in after those that follow it
-  pub filled-before : put r a (filled rs es (r + 1) o t) ≡ filled (a ∷ rs) es r o t
+  pub filled-before : put r a (filled rs xs (r + 1) o t) ≡ filled (a ∷ rs) xs r o t
   unfolding filled
   filled-before = rw (set-before rs (t .rows) r a)
 
   -- a row put in before what is filled in further on, or after it
-  pub filled-past : (j : ℕ) → j < r → put j a (filled rs es r o t) ≡ filled rs es r o (put j a t)
+  pub filled-past : (j : ℕ) → j < r → put j a (filled rs xs r o t) ≡ filled rs xs r o (put j a t)
   unfolding filled
   filled-past j h = rw (set-under rs (t .rows) r j a h)
 
   -- a row put in after those before it
-  pub filled-last : (r′ : ℕ) → r′ ≡ r + length rs → put r′ a (filled rs es r o t) ≡ filled (rs ++ (a ∷ [])) es r o t
+  pub filled-last : (r′ : ℕ) → r′ ≡ r + length rs → put r′ a (filled rs xs r o t) ≡ filled (rs ++ (a ∷ [])) xs r o t
   unfolding filled
   filled-last r′ p = rw (p, sets-append (t .rows) r rs (a ∷ []))
 
@@ -122,11 +101,11 @@ kept-later i′ j′ h k p = record {
   payloads = from-later _ _ _ _ _ k (p .payloads);
 }
 
-pub filled-kept : (rs : List (List ℕ)) (es : List Expr) (t : Compiled) (r o i j : ℕ) → r + length rs ≤ i → o + length es ≤ j
-    → Kept i j t (filled rs es r o t)
+pub filled-kept : (rs : List (List ℕ)) (xs : List Operand) (t : Compiled) (r o i j : ℕ) → r + length rs ≤ i → o + length xs ≤ j
+    → Kept i j t (filled rs xs r o t)
 unfolding filled
-filled-kept rs es t r o i j h k = record {
+filled-kept rs xs t r o i j h k = record {
   rows = from-sets [] i r (t .rows) rs h;
-  operands = from-sets [] j o (t .operands) (operandsOf es) (omega (arith, operands-length es));
-  payloads = from-sets 0 j o (t .payloads) (payloadsOf es) (omega (arith, payloads-length es));
+  operands = from-sets [] j o (t .operands) (headsOf xs) (omega (arith, length-map xs headOf));
+  payloads = from-sets 0 j o (t .payloads) (payloadsOf xs) (omega (arith, length-map xs (λ (x : Operand). x .payload)));
 }

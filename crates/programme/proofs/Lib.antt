@@ -5,6 +5,7 @@ pub mod Literals
 pub mod Formed
 pub mod Placed
 pub mod Filled
+pub mod Postfix
 pub mod Rows
 pub mod Due
 pub mod Spans
@@ -13,6 +14,8 @@ pub mod Shallow
 pub mod Parts
 pub mod Values
 pub mod Onwards
+pub mod Expressions
+pub mod Chains
 pub mod Commands
 pub mod Emission
 pub mod Bodies

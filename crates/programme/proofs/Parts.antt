@@ -14,8 +14,8 @@ use Rattle.programme.proofs.Filled.{kept-on, kept-later, filled-kept}
 -- a stands in the tables from `row` and `operand` on, and the next ones are row′ and operand′
 pub record Emitted {A : Type 0} (e : Emits A) (a : A) (row operand row′ operand′ : ℕ) (old new : Compiled) : Type 0 where
   pub rows : row′ ≡ row + length (e .rows a row operand)
-  pub operands : operand′ ≡ operand + length (e .exprs a)
-  pub tables : new ≡ filled (e .rows a row operand) (e .exprs a) row operand old
+  pub operands : operand′ ≡ operand + length (e .operands a)
+  pub tables : new ≡ filled (e .rows a row operand) (e .operands a) row operand old
 
 -- p was read up to `at`
 pub record Ended {A : Type 0} (e : Emits A) (p : Result Fault (Read A)) (row operand at row′ operand′ : ℕ) (old new : Compiled) : Type 0 where
@@ -28,7 +28,7 @@ pub emitted-kept : {A : Type 0} (e : Emits A) (a : A) (row operand row′ operan
     → (i j : ℕ) → row′ ≤ i → operand′ ≤ j → Kept i j old new
 emitted-kept e a row operand row′ operand′ old new w i j h k =
     rw (w .tables)
-    (filled-kept (e .rows a row operand) (e .exprs a) old row operand i j (omega (arith, w .rows)) (omega (arith, w .operands)))
+    (filled-kept (e .rows a row operand) (e .operands a) old row operand i j (omega (arith, w .rows)) (omega (arith, w .operands)))
 
 abbrev pub faultAt : ℕ → ℕ → Fault
 faultAt number offset = record { number = number; offset = offset }
@@ -95,7 +95,7 @@ module _ {A B : Type 0} (e : Emits A) (w : Emits B) (p : Result Fault (Read A)) 
 
 -- a part whose rows and operands are the whole's
 pub made : {A B : Type 0} (e : Emits A) (w : Emits B) (limit : Limit) (row operand : ℕ) (old new : Compiled) (p : Result Fault (Read A)) (f : Read A → B) (r : Reading)
-    → ((a : Read A) → e .rows (a .tree) row operand ≡ w .rows (f a) row operand) → ((a : Read A) → e .exprs (a .tree) ≡ w .exprs (f a))
+    → ((a : Read A) → e .rows (a .tree) row operand ≡ w .rows (f a) row operand) → ((a : Read A) → e .operands (a .tree) ≡ w .operands (f a))
     → Reads e p limit row operand old new r → Reads w (p >>= λ a. upTo (a .next) (f a)) limit row operand old new r
 unfolding readingOf Filled _>>=_
 made e w limit row operand old new (ok x) f r p q h =

@@ -4,10 +4,11 @@ use mathlib.Core.List.{List}
 use native.Mathlib.Omega.{arith}
 use Rattle.store.specs.declared.Answer.{Answer}
 use Rattle.store.specs.Result.{Result, unplaced}
-use Rattle.store.proofs.Result.{Refuses, post-refuse, post-map, post-refused-as, refuses-ok, refuses-require, refuses-bind, Positive}
-use Rattle.programme.specs.Syntax.{Expr, Cmd}
-use Rattle.programme.specs.Code.{Fault, Read, readValue, ExprByte, literalByte, readByte, exprByte, exprBy, readExpr, mostReads, CmdByte, skipByte, assignByte, seqByte, ifByte, whileByte, cmdByte, readCmds, readAssign, readSeq, readIf, readWhile, bodyBy, bodyTooDeep, readBody, mostDeep, readBlock}
+use Rattle.store.proofs.Result.{Any, Refuses, post-refuse, post-map, post-refused-as, refuses-ok, refuses-require, refuses-bind, Positive}
+use Rattle.programme.specs.Syntax.{Cmd}
+use Rattle.programme.specs.Code.{Fault, Read, readValue, readLiteral, readExpr, mostNested, CmdByte, skipByte, assignByte, seqByte, ifByte, whileByte, cmdByte, readCmds, readAssign, readSeq, readIf, readWhile, bodyBy, readBody, mostDeep, readBlock}
 use Rattle.programme.specs.Sheet.{kOf, blockAt, blocksFrom, programmeSheet}
+use Rattle.programme.proofs.Due.{body-deep, expr-reads}
 
 -- code is refused by 9 or 10
 abbrev Numbered : Fault → Type 0
@@ -22,18 +23,13 @@ value m s at =
     refuses-require _ _ _ _ (omega arith) (
     refuses-ok _ _))))
 
-expr-by : (b : ExprByte) (inner : ℕ → Result Fault (Read Expr)) (m : ℕ) (s : List ℕ) (at : ℕ)
-    → ((p : ℕ) → Refuses Numbered (inner p)) → Refuses Numbered (exprBy b inner m s at)
-unfolding exprBy
-expr-by literalByte inner m s at h = refuses-bind _ _ _ (value m s (at + 1)) (λ v. refuses-ok _ _)
-expr-by readByte inner m s at h = refuses-bind _ _ _ (h at) (λ e. refuses-ok _ _)
-expr-by ExprByte.unknownByte inner m s at h = post-refuse _ _ _ (omega arith)
-expr-by ExprByte.noByte inner m s at h = post-refuse _ _ _ (omega arith)
+lit : (m : ℕ) (s : List ℕ) (at : ℕ) → Refuses Numbered (readLiteral m s at)
+unfolding readLiteral
+lit m s at = refuses-bind _ _ _ (value m s (at + 1)) (λ v. refuses-ok _ _)
 
 expr : (deep m : ℕ) (s : List ℕ) (at : ℕ) → Refuses Numbered (readExpr deep m s at)
-unfolding readExpr
-expr zero m s at = expr-by (exprByte s at) _ m s at (λ p. post-refuse _ _ _ (omega arith))
-expr (suc deep) m s at = expr-by (exprByte s at) _ m s at (λ p. expr deep m s (p + 1))
+expr deep m s at =
+    expr-reads Numbered (λ _. omega arith) (λ _. omega arith) s (λ _ _. Any) m (λ _. lit m s) (λ _ _ _ _. tt) (λ _ _ _ _ _ _ _. tt) deep at
 
 module _ (inner : ℕ → Result Fault (Read Cmd)) (h : (p : ℕ) → Refuses Numbered (inner p)) where
   cmds : (n at : ℕ) → Refuses Numbered (readCmds inner n at)
@@ -45,32 +41,22 @@ module _ (inner : ℕ → Result Fault (Read Cmd)) (h : (p : ℕ) → Refuses Nu
   unfolding bodyBy readAssign readSeq readIf readWhile
   body-by skipByte m s at = refuses-ok _ _
   body-by assignByte m s at =
-      refuses-bind _ _ _ (expr mostReads m s _) λ x. refuses-bind _ _ _ (expr mostReads m s _) (λ v. refuses-ok _ _)
+      refuses-bind _ _ _ (expr mostNested m s _) λ x. refuses-bind _ _ _ (expr mostNested m s _) (λ v. refuses-ok _ _)
   body-by seqByte m s at =
       refuses-require _ _ _ _ (omega arith) (
       refuses-require _ _ _ _ (omega arith) (
       refuses-bind _ _ _ (cmds _ _) (λ cs. refuses-ok _ _)))
   body-by ifByte m s at =
-      refuses-bind _ _ _ (expr mostReads m s _) λ g.
+      refuses-bind _ _ _ (expr mostNested m s _) λ g.
       refuses-bind _ _ _ (h _) λ c. refuses-bind _ _ _ (h _) (λ d. refuses-ok _ _)
   body-by whileByte m s at =
-      refuses-bind _ _ _ (expr mostReads m s _) λ g. refuses-bind _ _ _ (h _) (λ c. refuses-ok _ _)
+      refuses-bind _ _ _ (expr mostNested m s _) λ g. refuses-bind _ _ _ (h _) (λ c. refuses-ok _ _)
   body-by CmdByte.unknownByte m s at = post-refuse _ _ _ (omega arith)
   body-by CmdByte.noByte m s at = post-refuse _ _ _ (omega arith)
 
-too-deep : (b : CmdByte) (s : List ℕ) (at : ℕ) → Refuses Numbered (bodyTooDeep b s at)
-unfolding bodyTooDeep
-too-deep skipByte s at = post-refuse _ _ _ (omega arith)
-too-deep assignByte s at = post-refuse _ _ _ (omega arith)
-too-deep seqByte s at = post-refuse _ _ _ (omega arith)
-too-deep ifByte s at = post-refuse _ _ _ (omega arith)
-too-deep whileByte s at = post-refuse _ _ _ (omega arith)
-too-deep CmdByte.unknownByte s at = post-refuse _ _ _ (omega arith)
-too-deep CmdByte.noByte s at = post-refuse _ _ _ (omega arith)
-
 body : (deep m : ℕ) (s : List ℕ) (at : ℕ) → Refuses Numbered (readBody deep m s at)
 unfolding readBody
-body zero m s at = too-deep (cmdByte s at) s at
+body zero m s at = body-deep Numbered (λ _. omega arith) (λ _. omega arith) s Any at (cmdByte s at)
 body (suc deep) m s at = body-by _ (λ p. refuses-bind _ _ _ (body deep m s p) (λ b. refuses-ok _ _)) (cmdByte s at) m s at
 
 block : (m : ℕ) (s : List ℕ) → Refuses Numbered (readBlock m s)

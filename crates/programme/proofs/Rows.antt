@@ -5,7 +5,7 @@ use mathlib.Core.List.{List, [], _∷_, _++_, append-nil}
 use native.Mathlib.Omega.{arith}
 use lib.ListN.{length, length-append}
 use Rattle.programme.specs.Syntax.{Expr, Cmd, cmd, Body, skip, assign, seq, if, while, Cmds, nil, cons}
-use Rattle.programme.specs.Rows.{guardRow, jumpRow, exprsOf, between, past, size, sizeBody, sizeAll, rowsOf, rowsBody, rowsAll}
+use Rattle.programme.specs.Rows.{guardRow, jumpRow, operandsOf, cmdOperands, between, past, size, sizeBody, sizeAll, rowsOf, rowsBody, rowsAll}
 
 -- The jump between an if's parts.
 pub between-most : (n : ℕ) → between n ≤ 1
@@ -50,28 +50,28 @@ mutual
   body-length (seq cs) at depth r o = all-length cs depth r o
   body-length (if g c d) at depth r o =
       let other = r + 1 + size c + between (size d) in
-      let n = o + 1 + length (exprsOf c) in
+      let n = o + length (operandsOf g) + length (cmdOperands c) in
       let jump = past (size d) (other + size d) in
       let ds = rowsOf d (depth + 1) other n in
       omega (
         arith,
-        length-append (rowsOf c (depth + 1) (r + 1) (o + 1)) (jump ++ ds),
+        length-append (rowsOf c (depth + 1) (r + 1) (o + length (operandsOf g))) (jump ++ ds),
         length-append jump ds,
         past-length (size d) (other + size d),
-        rows-length c (depth + 1) (r + 1) (o + 1),
+        rows-length c (depth + 1) (r + 1) (o + length (operandsOf g)),
         rows-length d (depth + 1) other n,
       )
   body-length (while g c) at depth r o =
       omega (
         arith,
-        length-append (rowsOf c (depth + 1) (r + 1) (o + 1)) (jumpRow r ∷ []),
-        rows-length c (depth + 1) (r + 1) (o + 1),
+        length-append (rowsOf c (depth + 1) (r + 1) (o + length (operandsOf g))) (jumpRow r ∷ []),
+        rows-length c (depth + 1) (r + 1) (o + length (operandsOf g)),
       )
 
   pub all-length : (cs : Cmds) (depth r o : ℕ) → length (rowsAll cs depth r o) ≡ sizeAll cs
   all-length nil depth r o = refl
   all-length (cons c cs) depth r o =
-      let n = o + length (exprsOf c) in
+      let n = o + length (cmdOperands c) in
       omega (
         arith,
         length-append (rowsOf c depth r o) (rowsAll cs depth (r + size c) n),
@@ -88,7 +88,7 @@ no-rows c depth r o h = no-entries (rowsOf c depth r o) (omega (arith, rows-leng
 
 -- An if's rows, where the else-part has none, and where it has some.
 module _ (g : Expr) (c d : Cmd) (at depth r o : ℕ) where
-  pub bare-rows : size d ≡ 0 → rowsBody (if g c d) at depth r o ≡ guardRow depth at o (r + 1 + size c) ∷ rowsOf c (depth + 1) (r + 1) (o + 1)
+  pub bare-rows : size d ≡ 0 → rowsBody (if g c d) at depth r o ≡ guardRow depth at o (r + 1 + size c) ∷ rowsOf c (depth + 1) (r + 1) (o + length (operandsOf g))
   unfolding rowsBody
   bare-rows h =
       let e : r + 1 + size c + 0 ≡ r + 1 + size c = omega arith in
@@ -96,13 +96,13 @@ module _ (g : Expr) (c d : Cmd) (at depth r o : ℕ) where
         between-none (size d) h,
         e,
         past-none (size d) (r + 1 + size c + size d) h,
-        no-rows d (depth + 1) (r + 1 + size c) (o + 1 + length (exprsOf c)) h,
-        append-nil (rowsOf c (depth + 1) (r + 1) (o + 1)),
+        no-rows d (depth + 1) (r + 1 + size c) (o + length (operandsOf g) + length (cmdOperands c)) h,
+        append-nil (rowsOf c (depth + 1) (r + 1) (o + length (operandsOf g))),
       )
 
   pub jump-rows : 0 < size d
       → rowsBody (if g c d) at depth r o
-      ≡ guardRow depth at o (r + 1 + size c + 1) ∷ (rowsOf c (depth + 1) (r + 1) (o + 1)
-      ++ (jumpRow (r + 1 + size c + 1 + size d) ∷ rowsOf d (depth + 1) (r + 1 + size c + 1) (o + 1 + length (exprsOf c))))
+      ≡ guardRow depth at o (r + 1 + size c + 1) ∷ (rowsOf c (depth + 1) (r + 1) (o + length (operandsOf g))
+      ++ (jumpRow (r + 1 + size c + 1 + size d) ∷ rowsOf d (depth + 1) (r + 1 + size c + 1) (o + length (operandsOf g) + length (cmdOperands c))))
   unfolding rowsBody
   jump-rows h = rw (between-one (size d) h, past-one (size d) (r + 1 + size c + 1 + size d) h)

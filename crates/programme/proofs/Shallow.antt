@@ -8,7 +8,7 @@ use Rattle.store.proofs.Result.{Post, Any, post-ok, post-refuse, post-require, 
 use Rattle.programme.specs.Syntax.{Cmd, Body}
 use Rattle.programme.specs.Code.{Fault, Read, CmdByte, skipByte, assignByte, seqByte, ifByte, whileByte, cmdByte, readCmds, readAssign, readSeq, readIf, readWhile, bodyBy, placed, readBody, mostDeep, readBlock}
 use Rattle.programme.specs.Rows.{Shallow, ShallowBody, ShallowAll}
-use Rattle.programme.proofs.Spans.{body-deep}
+use Rattle.programme.proofs.Due.{body-deep}
 
 -- where something is read, P holds of its tree
 abbrev Reads : {A : Type 0} → (A → Type 0) → Result Fault (Read A) → Type 0
@@ -50,7 +50,7 @@ placed-at depth at r h = post-bind (λ x. ShallowBody depth (x .tree)) _ _ _ _ h
 
 body : (deep depth m : ℕ) (s : List ℕ) (at : ℕ) → depth + deep ≤ mostDeep → Reads (ShallowBody depth) (readBody deep m s at)
 unfolding readBody
-body zero depth m s at l = body-deep _ s at (cmdByte s at)
+body zero depth m s at l = body-deep Any (λ _. tt) (λ _. tt) s _ at (cmdByte s at)
 body (suc deep) depth m s at l =
     body-by m s (λ p. placed p (readBody deep m s p)) depth deep at l
     (λ d k p. placed-at d p (readBody deep m s p) (body deep d m s p k)) (cmdByte s at)

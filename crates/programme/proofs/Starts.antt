@@ -13,7 +13,7 @@ use Rattle.lattice.proofs.Tests.{and-l, and-r, every-at}
 use Rattle.store.specs.Result.{ok}
 use Rattle.store.proofs.InTurn.{require-ok}
 use Rattle.store.proofs.Numbers.{number-lt}
-use Rattle.store.specs.Bytes.{numberAt, table}
+use Rattle.store.specs.Bytes.{numberAt, entries}
 use Rattle.store.specs.Sheet.{sizesWidth}
 use Rattle.programme.specs.Sheet.{Block, mostCode, kOf, cOf, lengthAt, codeAt, startOf, codeOf, lent, headerAt, headerGood, blocksFrom, programmeSheet}
 use Rattle.programme.specs.Starts.{codeIn, leftAfter, RunningStart, RunningStarts, ThreeWorked}
@@ -103,7 +103,7 @@ module _ (p : List ℕ) where
 
 -- the worked example
 pub three-worked : ThreeWorked
-unfolding table startOf leftAfter numberAt
+unfolding entries startOf leftAfter numberAt
 three-worked = record { starts = refl; codes = refl; leaves = refl }
 
 module _ {p : List ℕ} {k i start next : ℕ} (w : Stands p k i start next) where

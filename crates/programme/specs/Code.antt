@@ -7,7 +7,7 @@ use lib.Dec.{ltb, leb, eqb}
 use Rattle.store.specs.Result.{Result, ok, refuse, _>>=_, require}
 use Rattle.store.specs.declared.Value.{Value}
 use Rattle.store.specs.Value.{valueWidth, kinds, wellFormed, valueAt}
-use Rattle.programme.specs.Syntax.{Expr, literal, read, Cmd, cmd, Body, skip, assign, seq, if, while, Cmds, nil, cons}
+use Rattle.programme.specs.Syntax.{Op, sum, difference, less, equal, Expr, literal, read, operation, Cmd, cmd, Body, skip, assign, seq, if, while, Cmds, nil, cons}
 
 pub record Fault : Type 0 where
   pub number : ℕ
@@ -30,7 +30,7 @@ illFormed at = record { number = 9; offset = at }
 abbrev pub endsEarly : List ℕ → Fault
 endsEarly s = illFormed (length s)
 
--- "10 nested too deep or a ninth 11, at that byte"
+-- "10 nested too deep or a ninth 11, at that byte"; of reads and operations "the ninth is refused by 10 as before" (document 02, N5)
 abbrev pub tooDeep : ℕ → Fault
 tooDeep at = record { number = 10; offset = at }
 
@@ -46,35 +46,68 @@ readValue m s at =
 -- what stands where an expression is due
 pub data ExprByte : Type 0 where
   literalByte readByte unknownByte noByte : ExprByte
+  operationByte : Op → ExprByte
 
-unfoldable pub exprByte : List ℕ → ℕ → ExprByte
-exprByte s at =
-    elim (ltb at (length s)) [
-      | false ↦ noByte
-      | true ↦ elim (eqb (getD s at 0) 0x10) [
-        | true ↦ literalByte
-        | false ↦ elim (eqb (getD s at 0) 0x11) [ true ↦ readByte | false ↦ unknownByte ]
+unfoldable pub exprSorted : ℕ → ExprByte
+exprSorted b =
+    elim (eqb b 0x10) [
+      | true ↦ literalByte
+      | false ↦ elim (eqb b 0x11) [
+        | true ↦ readByte
+        | false ↦ elim (eqb b 0x12) [
+          | true ↦ operationByte sum
+          | false ↦ elim (eqb b 0x13) [
+            | true ↦ operationByte difference
+            | false ↦ elim (eqb b 0x14) [
+              | true ↦ operationByte less
+              | false ↦ elim (eqb b 0x15) [ true ↦ operationByte equal | false ↦ unknownByte ]
+            ]
+          ]
+        ]
       ]
     ]
 
--- an expression by its first byte; `inner` reads what stands after a byte 11
+unfoldable pub exprByte : List ℕ → ℕ → ExprByte
+exprByte s at = elim (ltb at (length s)) [ true ↦ exprSorted (getD s at 0) | false ↦ noByte ]
+
+-- the value after a byte 10
+unfoldable pub readLiteral : ℕ → List ℕ → ℕ → Result Fault (Read Expr)
+readLiteral m s at = readValue m s (at + 1) >>= λ v. upTo (v .next) (literal (v .tree))
+
+-- the two expressions after an operation's byte; `inner` reads one
+unfoldable pub readOperation : Op → (ℕ → Result Fault (Read Expr)) → ℕ → Result Fault (Read Expr)
+readOperation o inner at =
+    inner at >>= λ left.
+    inner (left .next) >>= λ right.
+    upTo (right .next) (operation o (left .tree) (right .tree))
+
+-- an expression by its first byte; `inner` reads what stands inside a read or an operation
 unfoldable pub exprBy : ExprByte → (ℕ → Result Fault (Read Expr)) → ℕ → List ℕ → ℕ → Result Fault (Read Expr)
-exprBy literalByte inner m s at = readValue m s (at + 1) >>= λ v. upTo (v .next) (literal (v .tree))
-exprBy readByte inner m s at = inner at >>= λ e. upTo (e .next) (read (e .tree))
+exprBy literalByte inner m s at = readLiteral m s at
+exprBy readByte inner m s at = inner (at + 1) >>= λ e. upTo (e .next) (read (e .tree))
+exprBy (operationByte o) inner m s at = readOperation o inner (at + 1)
 exprBy unknownByte inner m s at = refuse (illFormed at)
 exprBy noByte inner m s at = refuse (endsEarly s)
 
--- `deep`: how many bytes 11 are still allowed
-unfoldable pub readExpr : ℕ → ℕ → List ℕ → ℕ → Result Fault (Read Expr)
-readExpr zero m s at = exprBy (exprByte s at) (λ p. refuse (tooDeep p)) m s at
-readExpr (suc deep) m s at = exprBy (exprByte s at) (λ p. readExpr deep m s (p + 1)) m s at
+-- an expression where neither read nor operation is allowed any more
+unfoldable pub exprTooDeep : ExprByte → ℕ → List ℕ → ℕ → Result Fault (Read Expr)
+exprTooDeep literalByte m s at = readLiteral m s at
+exprTooDeep readByte m s at = refuse (tooDeep at)
+exprTooDeep (operationByte o) m s at = refuse (tooDeep at)
+exprTooDeep unknownByte m s at = refuse (illFormed at)
+exprTooDeep noByte m s at = refuse (endsEarly s)
 
--- "At most 8 bytes 11 stand in a row in one expression."
-abbrev pub mostReads : ℕ
-mostReads = 8
+-- `deep`: how deep reads and operations may still nest
+unfoldable pub readExpr : ℕ → ℕ → List ℕ → ℕ → Result Fault (Read Expr)
+readExpr zero m s at = exprTooDeep (exprByte s at) m s at
+readExpr (suc deep) m s at = exprBy (exprByte s at) (readExpr deep m s) m s at
+
+-- "Expressions may now nest 8 deep, reads and operations together" (document 02, N5)
+abbrev pub mostNested : ℕ
+mostNested = 8
 
 abbrev pub exprAt : ℕ → List ℕ → ℕ → Result Fault (Read Expr)
-exprAt m s at = readExpr mostReads m s at
+exprAt m s at = readExpr mostNested m s at
 
 -- what stands where a command is due: "Every command is known by its first byte"
 pub data CmdByte : Type 0 where

@@ -2,12 +2,12 @@
 -- Skips and sequences have no rows. Assumes nothing.
 use Prim.Native.Nat.{ℕ, zero, suc, _+_, _*_, _/_, _<_, _≤_}
 use mathlib.Core.Path.{_≡_}
-use mathlib.Core.List.{List, [], _∷_, _++_}
+use mathlib.Core.List.{List, [], _∷_, _++_, map}
 use lib.ListN.{length, getD}
 use lib.Seq.{sets}
-use Rattle.store.specs.declared.Value.{Value}
 use Rattle.store.specs.Value.{valueWidth}
-use Rattle.programme.specs.Syntax.{Expr, literal, read, Cmd, cmd, Body, skip, assign, seq, if, while, Cmds, nil, cons}
+use Rattle.programme.specs.declared.Operand.{Operand}
+use Rattle.programme.specs.Syntax.{Op, sum, difference, less, equal, Expr, literal, read, operation, Cmd, cmd, Body, skip, assign, seq, if, while, Cmds, nil, cons}
 use Rattle.programme.specs.Code.{mostDeep}
 use Rattle.programme.specs.Sheet.{Block, mostBlocks, mostCode}
 
@@ -27,11 +27,11 @@ guardKind = 2
 abbrev pub jumpKind : ℕ
 jumpKind = 3
 
--- an assignment, with the operands of its target and its value
+-- an assignment, with the first operands of its target and its value
 abbrev pub assignRow : ℕ → ℕ → ℕ → ℕ → List ℕ
 assignRow depth at target value = rowOf assignKind depth at target value
 
--- a guard, with its operand and the row to go on at where it is false; where it is true that is the next row
+-- a guard, with its first operand and the row to go on at where it is false; where it is true that is the next row
 abbrev pub guardRow : ℕ → ℕ → ℕ → ℕ → List ℕ
 guardRow depth at operand other = rowOf guardKind depth at operand other
 
@@ -43,45 +43,54 @@ jumpRow target = rowOf jumpKind 0 0 target 0
 abbrev pub endRow : List ℕ
 endRow = rowOf endKind 0 0 0 0
 
--- An operand: an expression's literal, and how many reads stand around it.
-unfoldable pub literalOf : Expr → Value
-literalOf (literal v) = v
-literalOf (read e) = literalOf e
+-- An expression is held in postfix. An operand is a literal, with its kind and payload, or an operation of the two values before it, with its first
+-- byte as kind and no payload. It has how many reads stand around it; of every operand but the last this is added to:
+abbrev pub moreCome : ℕ
+moreCome = 128
 
-unfoldable pub readsOf : Expr → ℕ
-readsOf (literal v) = 0
-readsOf (read e) = readsOf e + 1
+abbrev pub operand : ℕ → ℕ → ℕ → Operand
+operand kind reads payload = record { kind = kind; reads = reads; payload = payload }
 
--- Its kind and its reads; its payload stands in a table of its own.
-unfoldable pub operandOf : Expr → List ℕ
-operandOf e = literalOf e .kind ∷ readsOf e ∷ []
+unfoldable pub byteOf : Op → ℕ
+byteOf sum = 0x12
+byteOf difference = 0x13
+byteOf less = 0x14
+byteOf equal = 0x15
 
-unfoldable pub payloadOf : Expr → ℕ
-payloadOf e = literalOf e .payload
+-- an expression inside so many reads
+unfoldable pub postfix : ℕ → Expr → List Operand
+postfix reads (literal v) = operand (v .kind) reads (v .payload) ∷ []
+postfix reads (read e) = postfix (reads + 1) e
+postfix reads (operation o l r) = postfix moreCome l ++ (postfix moreCome r ++ (operand (byteOf o) reads 0 ∷ []))
 
-unfoldable pub operandsOf : List Expr → List (List ℕ)
-operandsOf [] = []
-operandsOf (e ∷ es) = operandOf e ∷ operandsOf es
+abbrev pub operandsOf : Expr → List Operand
+operandsOf e = postfix 0 e
 
-unfoldable pub payloadsOf : List Expr → List ℕ
-payloadsOf [] = []
-payloadsOf (e ∷ es) = payloadOf e ∷ payloadsOf es
+-- In the tables an operand's payload stands apart.
+abbrev pub headOf : Operand → List ℕ
+headOf x = x .kind ∷ x .reads ∷ []
 
--- a command's expressions, in byte order
+abbrev pub headsOf : List Operand → List (List ℕ)
+headsOf xs = map headOf xs
+
+abbrev pub payloadsOf : List Operand → List ℕ
+payloadsOf xs = map (λ (x : Operand). x .payload) xs
+
+-- the operands of a command's expressions, in byte order
 unfoldable mutual
-  pub exprsOf : Cmd → List Expr
-  exprsOf (cmd at b) = exprsBody b
+  pub cmdOperands : Cmd → List Operand
+  cmdOperands (cmd at b) = bodyOperands b
 
-  pub exprsBody : Body → List Expr
-  exprsBody skip = []
-  exprsBody (assign x v) = x ∷ v ∷ []
-  exprsBody (seq cs) = exprsAll cs
-  exprsBody (if g c d) = g ∷ (exprsOf c ++ exprsOf d)
-  exprsBody (while g c) = g ∷ exprsOf c
+  pub bodyOperands : Body → List Operand
+  bodyOperands skip = []
+  bodyOperands (assign x v) = operandsOf x ++ operandsOf v
+  bodyOperands (seq cs) = allOperands cs
+  bodyOperands (if g c d) = operandsOf g ++ (cmdOperands c ++ cmdOperands d)
+  bodyOperands (while g c) = operandsOf g ++ cmdOperands c
 
-  pub exprsAll : Cmds → List Expr
-  exprsAll nil = []
-  exprsAll (cons c cs) = exprsOf c ++ exprsAll cs
+  pub allOperands : Cmds → List Operand
+  allOperands nil = []
+  allOperands (cons c cs) = cmdOperands c ++ allOperands cs
 
 -- Between the parts of an if stands a jump past the else-part, of n rows; none where that has no rows.
 unfoldable pub between : ℕ → ℕ
@@ -115,18 +124,27 @@ unfoldable mutual
 
   pub rowsBody : Body → ℕ → ℕ → ℕ → ℕ → List (List ℕ)
   rowsBody skip at depth r o = []
-  rowsBody (assign x v) at depth r o = assignRow depth at o (o + 1) ∷ []
+  rowsBody (assign x v) at depth r o = assignRow depth at o (o + length (operandsOf x)) ∷ []
   rowsBody (seq cs) at depth r o = rowsAll cs depth r o
   rowsBody (if g c d) at depth r o =
       let other = r + 1 + size c + between (size d) in
-      guardRow depth at o other ∷ (rowsOf c (depth + 1) (r + 1) (o + 1)
-      ++ (past (size d) (other + size d) ++ rowsOf d (depth + 1) other (o + 1 + length (exprsOf c))))
+      let inner = o + length (operandsOf g) in
+      guardRow depth at o other ∷ (rowsOf c (depth + 1) (r + 1) inner
+      ++ (past (size d) (other + size d) ++ rowsOf d (depth + 1) other (inner + length (cmdOperands c))))
   rowsBody (while g c) at depth r o =
-      guardRow depth at o (r + 1 + size c + 1) ∷ (rowsOf c (depth + 1) (r + 1) (o + 1) ++ (jumpRow r ∷ []))
+      guardRow depth at o (r + 1 + size c + 1) ∷ (rowsOf c (depth + 1) (r + 1) (o + length (operandsOf g)) ++ (jumpRow r ∷ []))
 
   pub rowsAll : Cmds → ℕ → ℕ → ℕ → List (List ℕ)
   rowsAll nil depth r o = []
-  rowsAll (cons c cs) depth r o = rowsOf c depth r o ++ rowsAll cs depth (r + size c) (o + length (exprsOf c))
+  rowsAll (cons c cs) depth r o = rowsOf c depth r o ++ rowsAll cs depth (r + size c) (o + length (cmdOperands c))
+
+-- Reads and operations of an expression nest at most `deep` deep.
+unfoldable pub Nests : ℕ → Expr → Type 0
+Nests deep (literal v) = Unit {0}
+Nests zero (read e) = ⊥
+Nests (suc deep) (read e) = Nests deep e
+Nests zero (operation o l r) = ⊥
+Nests (suc deep) (operation o l r) = Nests deep l × Nests deep r
 
 -- Guards of a command that stands inside `depth` of them nest no deeper than commands may.
 unfoldable mutual
@@ -145,14 +163,14 @@ unfoldable mutual
   ShallowAll depth (cons c cs) = Shallow depth c × ShallowAll depth cs
 
 -- a programme's: the blocks one after the other, each closed by its end row
-unfoldable pub blocksExprs : List Block → List Expr
-blocksExprs [] = []
-blocksExprs (b ∷ bs) = exprsOf (b .command) ++ blocksExprs bs
+unfoldable pub blocksOperands : List Block → List Operand
+blocksOperands [] = []
+blocksOperands (b ∷ bs) = cmdOperands (b .command) ++ blocksOperands bs
 
 unfoldable pub blocksRows : List Block → ℕ → ℕ → List (List ℕ)
 blocksRows [] r o = []
 blocksRows (b ∷ bs) r o =
-    rowsOf (b .command) 0 r o ++ (endRow ∷ blocksRows bs (r + size (b .command) + 1) (o + length (exprsOf (b .command))))
+    rowsOf (b .command) 0 r o ++ (endRow ∷ blocksRows bs (r + size (b .command) + 1) (o + length (cmdOperands (b .command))))
 
 -- The tables that a programme is compiled into
 pub record Compiled : Type 0 where
@@ -164,26 +182,26 @@ abbrev pub tablesOf : List (List ℕ) → List (List ℕ) → List ℕ → Compi
 tablesOf rows operands payloads = record { rows = rows; operands = operands; payloads = payloads }
 
 -- rows and operands put into the tables, from row r and operand o on; all other entries stay
-unfoldable pub filled : List (List ℕ) → List Expr → ℕ → ℕ → Compiled → Compiled
-filled rows es r o t =
-    record { rows = sets (t .rows) r rows; operands = sets (t .operands) o (operandsOf es); payloads = sets (t .payloads) o (payloadsOf es) }
+unfoldable pub filled : List (List ℕ) → List Operand → ℕ → ℕ → Compiled → Compiled
+filled rows xs r o t =
+    record { rows = sets (t .rows) r rows; operands = sets (t .operands) o (headsOf xs); payloads = sets (t .payloads) o (payloadsOf xs) }
 
 unfoldable pub compiled : List Block → Compiled → Compiled
-compiled bs t = filled (blocksRows bs 0 0) (blocksExprs bs) 0 0 t
+compiled bs t = filled (blocksRows bs 0 0) (blocksOperands bs) 0 0 t
 
--- What code can fill. An operand comes with an expression's byte and literal, and two rows, a guard's and its jump's, with a command's byte
--- before them: so many bytes at the least.
+-- What code can fill: two rows, a guard's and its jump's, come with a command's byte and an expression; two operands with an operation's byte and a
+-- literal. So many bytes at the least:
 abbrev pub exprWidth : ℕ
 exprWidth = 1 + valueWidth
 
-abbrev pub guardWidth : ℕ
-guardWidth = 1 + exprWidth
-
-abbrev pub operandsIn : ℕ → ℕ
-operandsIn bytes = bytes / exprWidth
+abbrev pub pairWidth : ℕ
+pairWidth = 1 + exprWidth
 
 abbrev pub rowsIn : ℕ → ℕ
-rowsIn bytes = 2 * bytes / guardWidth
+rowsIn bytes = 2 * bytes / pairWidth
+
+abbrev pub operandsIn : ℕ → ℕ
+operandsIn bytes = 2 * bytes / pairWidth
 
 abbrev pub mostOperands : ℕ
 mostOperands = operandsIn mostCode

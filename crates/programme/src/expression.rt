@@ -1,59 +1,169 @@
-// Values, expressions and assignments: read, and put into the tables.
-ghost use mathlib.Core.Path.{_≡_};
-ghost use Prim.Native.Nat.{_<_};
+// Expressions and assignments: read, and put into the tables.
+ghost use Prim.Native.Nat.{_<_, _≤_};
 ghost use lib.ListN.{length};
-ghost use Rattle.programme.specs.Code.{readValue, readAssign};
-ghost use Rattle.programme.specs.Rows.{tablesOf};
-ghost use Rattle.programme.specs.Reading.{literalReading, CanRead, ExprReads, BodyReads};
+ghost use Rattle.programme.specs.Code.{readExpr, mostNested, readAssign};
+ghost use Rattle.programme.specs.Rows.{moreCome, tablesOf};
+ghost use Rattle.programme.specs.Reading.{spotAt, CanRead, ReadsAt, PartReads, OperationReads, ExprReads, BodyReads};
+use super::Operand;
 use super::Operands;
 use super::Payloads;
 use super::Row;
 use super::Rows;
-use super::reader::Literal;
+use super::literal;
 use super::reader::Reading;
 use super::reader::Spot;
 use store::Answer;
-use store::Value;
 
-// A literal's value. Its kind is judged before the payload's bytes are counted.
-fn read_value(code: &[u8], slots: usize, at: usize) -> Literal
-    ensures { λ r. ⌜ r ≡ literalReading (readValue slots (now (code .entry)) at) ⌝ }
+// The operands of an operation, which stand from `at` on, left and then right; then its own, inside `reads` reads.
+fn read_operation(
+    code: &[u8],
+    slots: usize,
+    operands: &mut Operands,
+    payloads: &mut Payloads,
+    at: usize,
+    row: usize,
+    operand: usize,
+    deep: usize,
+    operation: u8,
+    reads: u8,
+) -> Reading
+    requires { ⌜ CanRead (now code) (spotAt at row operand) 0 × (deep ≤ mostNested) ⌝ }
+    ensures { λ r. ⌜
+        OperationReads deep operation reads slots (now (code .entry)) (spotAt at row operand)
+        (now (operands .entry)) (now (payloads .entry)) (now (operands .exit)) (now (payloads .exit)) r
+        ⌝ }
 {
-    let size = code.len();
-    if size <= at {
-        return Literal::Refused {
-            number: Answer::ILL_FORMED_CODE,
-            at: size,
-        };
-    }
-    let kind = code[at];
-    if Value::KINDS <= kind {
-        return Literal::Refused {
-            number: Answer::ILL_FORMED_CODE,
-            at,
-        };
-    }
-    if size - at < Value::WIDTH {
-        return Literal::Refused {
-            number: Answer::ILL_FORMED_CODE,
-            at: size,
-        };
-    }
-    let v = store::value_at(code, at);
-    if store::well_formed(v, slots) {
-        Literal::Value {
-            kind,
-            payload: v.payload,
+    let more = Operand::MORE;
+    match read_part(
+        code,
+        slots,
+        operands,
+        payloads,
+        at,
+        row,
+        operand,
+        deep,
+        more,
+    ) {
+        Reading::Done {
+            at: middle,
+            row: _,
+            operand: right,
+        } => {
+            match read_part(
+                code,
+                slots,
+                operands,
+                payloads,
+                middle,
+                row,
+                right,
+                deep,
+                more,
+            ) {
+                Reading::Done {
+                    at: end,
+                    row: _,
+                    operand: last,
+                } => {
+                    operands[last] = [operation, reads];
+                    payloads[last] = 0;
+                    Reading::Done {
+                        at: end,
+                        row,
+                        operand: last + 1,
+                    }
+                }
+                Reading::Refused { number, at: place } => Reading::Refused { number, at: place },
+            }
         }
-    } else {
-        Literal::Refused {
-            number: Answer::ILL_FORMED_CODE,
-            at,
-        }
+        Reading::Refused { number, at: place } => Reading::Refused { number, at: place },
     }
 }
 
-// An expression: its reads, and then its literal, which becomes the next operand.
+// How many bytes 11 stand in a row from `at` on, up to `most`.
+fn reads_at(code: &[u8], at: usize, most: usize) -> usize
+    requires { ⌜ at ≤ length (now code) ⌝ }
+    ensures { λ r. ⌜ ReadsAt (now (code .entry)) at most r ⌝ }
+{
+    let size = code.len();
+    let mut reads = 0;
+    while reads < most {
+        if size <= at + reads {
+            return reads;
+        }
+        if code[at + reads] != Spot::READ {
+            return reads;
+        }
+        reads += 1;
+    }
+    reads
+}
+
+// An expression inside `outer` reads, where reads and operations may still nest `deep` deep.
+fn read_part(
+    code: &[u8],
+    slots: usize,
+    operands: &mut Operands,
+    payloads: &mut Payloads,
+    from: usize,
+    row: usize,
+    operand: usize,
+    deep: usize,
+    outer: u8,
+) -> Reading
+    requires { ⌜ CanRead (now code) (spotAt from row operand) 0 × (deep ≤ mostNested) × (outer ≤ moreCome) ⌝ }
+    ensures { λ r. ⌜
+        PartReads outer (now (code .entry)) (readExpr deep slots (now (code .entry)) from) (spotAt from row operand)
+        (now (operands .entry)) (now (payloads .entry)) (now (operands .exit)) (now (payloads .exit)) r
+        ⌝ }
+{
+    let size = code.len();
+    let reads = reads_at(code, from, deep);
+    let at = from + reads;
+    if size <= at {
+        return Reading::Refused {
+            number: Answer::ILL_FORMED_CODE,
+            at: size,
+        };
+    }
+    let b = code[at];
+    let inside = outer + reads as u8;
+    if b == Spot::LITERAL {
+        return literal::read_literal(code, slots, operands, payloads, at, row, operand, inside);
+    }
+    let unknown = Reading::Refused {
+        number: Answer::ILL_FORMED_CODE,
+        at,
+    };
+    if b < Spot::READ {
+        return unknown;
+    }
+    if Operand::EQUAL < b {
+        return unknown;
+    }
+    if reads == deep {
+        return Reading::Refused {
+            number: Answer::NESTED_TOO_DEEP,
+            at,
+        };
+    }
+    let left = deep - reads - 1;
+    read_operation(
+        code,
+        slots,
+        operands,
+        payloads,
+        at + 1,
+        row,
+        operand,
+        left,
+        b,
+        inside,
+    )
+}
+
+// A whole expression.
 pub(crate) fn read_expr(
     code: &[u8],
     slots: usize,
@@ -67,46 +177,18 @@ pub(crate) fn read_expr(
         (now (operands .entry)) (now (payloads .entry)) (now (operands .exit)) (now (payloads .exit)) r
         ⌝ }
 {
-    let size = code.len();
-    let row = from.row;
-    let operand = from.operand;
-    let mut here = from.at;
-    let mut reads = 0;
-    while here < size {
-        let first = code[here];
-        if first != Spot::READ {
-            if first == Spot::LITERAL {
-                return match read_value(code, slots, here + 1) {
-                    Literal::Value { kind, payload } => {
-                        operands[operand] = [kind, reads as u8];
-                        payloads[operand] = payload;
-                        Reading::Done {
-                            at: here + 1 + Value::WIDTH,
-                            row,
-                            operand: operand + 1,
-                        }
-                    }
-                    Literal::Refused { number, at } => Reading::Refused { number, at },
-                };
-            }
-            return Reading::Refused {
-                number: Answer::ILL_FORMED_CODE,
-                at: here,
-            };
-        }
-        if reads == Reading::MOST_READS {
-            return Reading::Refused {
-                number: Answer::NESTED_TOO_DEEP,
-                at: here,
-            };
-        }
-        reads += 1;
-        here += 1;
-    }
-    Reading::Refused {
-        number: Answer::ILL_FORMED_CODE,
-        at: size,
-    }
+    let deep = Reading::MOST_NESTED;
+    read_part(
+        code,
+        slots,
+        operands,
+        payloads,
+        from.at,
+        from.row,
+        from.operand,
+        deep,
+        0,
+    )
 }
 
 // Target, then value; then their row.

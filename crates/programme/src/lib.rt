@@ -13,6 +13,7 @@ use store::Value;
 
 mod code;
 mod expression;
+mod literal;
 mod reader;
 
 use reader::Reading;
@@ -82,21 +83,35 @@ impl Row {
     pub const DEPTHS: usize = Reading::MOST_DEEP + 1;
 }
 
-// An operand: a literal's kind, and the reads around it. Its payload stands in a table of its own.
+// An operand of an expression in postfix: a literal's kind or an operation; the reads around it, with `MORE` added where more operands of its
+// expression come. Its payload stands in a table of its own.
 pub struct Operand {
     pub kind: u8,
     pub reads: u8,
+    pub payload: u64,
 }
 
 impl Operand {
-    // The numbers of an operand, and where each stands.
+    // The numbers of an operand beside its payload, and where each stands.
     pub const WIDTH: usize = 2;
 
     pub const KIND: usize = 0;
 
     pub const READS: usize = 1;
-    // The most operands: one for each expression's bytes.
-    pub const MOST: usize = Sizes::MOST_CODE / (1 + Value::WIDTH);
+    // Added to the reads of every operand of an expression but the last.
+    pub const MORE: u8 = 0x80;
+    // An operation's kind is its first byte.
+    pub const SUM: u8 = 0x12;
+
+    pub const DIFFERENCE: u8 = 0x13;
+
+    pub const LESS_THAN: u8 = 0x14;
+
+    pub const EQUAL: u8 = 0x15;
+    // The most operands: two for the bytes of an operation and a literal.
+    pub const MOST: usize = 2 * Sizes::MOST_CODE / (2 + Value::WIDTH);
+    // How deep reads and operations may nest in an expression.
+    pub const DEEPEST: usize = Reading::MOST_NESTED;
 }
 
 // What a programme is compiled into: rows, and operands with their payloads beside them.

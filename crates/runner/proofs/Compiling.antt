@@ -11,15 +11,16 @@ use lib.Seq.{getD-set-same, getD-set-other}
 use Rattle.lattice.specs.Order.{Label, meet}
 use Rattle.store.specs.Result.{Result, ok, _>>=_}
 use Rattle.store.proofs.Result.{post-at, bind-ok, bind-assoc}
-use Rattle.programme.specs.Syntax.{Expr, Cmd, cmd, Body, skip, assign, seq, if, while, Cmds, nil, cons, Literals, LiteralsBody, LiteralsAll}
+use Rattle.programme.specs.Syntax.{Expr, Cmd, cmd, Body, skip, assign, seq, if, while, Cmds, nil, cons, Exprs, ExprsBody, ExprsAll}
+use Rattle.programme.specs.declared.Operand.{Operand}
 use Rattle.programme.specs.Code.{mostDeep}
-use Rattle.programme.specs.Rows.{Compiled, jumpRow, endRow, exprsOf, exprsBody, exprsAll, between, past, rowsOf, rowsBody, rowsAll, size, sizeBody, sizeAll, Shallow, ShallowBody, ShallowAll, mostRows}
+use Rattle.programme.specs.Rows.{Compiled, jumpRow, endRow, operandsOf, cmdOperands, bodyOperands, allOperands, between, past, rowsOf, rowsBody, rowsAll, size, sizeBody, sizeAll, Shallow, ShallowBody, ShallowAll, mostRows}
 use Rattle.programme.proofs.Rows.{rows-length}
 use Rattle.calculus.specs.Calculus.{Setting, State, Stop, Write, judge, assignment, step, counted, performed, choose, exec, execBody, execs}
 use Rattle.calculus.proofs.Steps.{Counted, made}
 use Rattle.calculus.proofs.While.{while-law}
-use Rattle.runner.specs.Running.{AssignAt, GuardAt, JumpAt, next, Runs, ends, assigns, guards, jumps, BlockAt}
-use Rattle.runner.proofs.Standing.{Formed, PartAt, part-front, part-rest, part-tail, part-later, assign-at, guard-at, jump-at, end-at}
+use Rattle.runner.specs.Running.{SoundExpr, AssignAt, GuardAt, JumpAt, next, Runs, ends, assigns, guards, jumps, BlockAt}
+use Rattle.runner.proofs.Standing.{PartAt, part-front, part-rest, part-tail, part-later, assign-at, guard-at, jump-at, end-at}
 
 abbrev met : Setting → Label → Label → Label
 met w = meet (w .tables .order)
@@ -141,18 +142,18 @@ module _ (w : Setting) (t : Compiled) (last : ℕ) where
       }
 
   -- After a then-part: the way from its end past the else-part, and the else-part. Where that has rows, the way is a jump; else it is empty.
-  record Past (mid other after o : ℕ) (rows : List (List ℕ)) (es : List Expr) : Type 0 where
+  record Past (mid other after o : ℕ) (rows : List (List ℕ)) (xs : List Operand) : Type 0 where
     way : Leads mid after
-    part : PartAt t other o rows es
+    part : PartAt t other o rows xs
 
-  past-then : (n mid other after o : ℕ) (rows : List (List ℕ)) (es : List Expr) → other ≡ mid + between n → after ≡ other + n
-      → PartAt t mid o (past n after ++ rows) es → Past mid other after o rows es
+  past-then : (n mid other after o : ℕ) (rows : List (List ℕ)) (xs : List Operand) → other ≡ mid + between n → after ≡ other + n
+      → PartAt t mid o (past n after ++ rows) xs → Past mid other after o rows xs
   unfolding between past
-  past-then zero mid other after o rows es e f h =
+  past-then zero mid other after o rows xs e f h =
       let e′ : other ≡ mid = omega arith in
       let f′ : mid ≡ after = omega arith in
       record { way = λ l s whole q. rw f′ q; part = rw e′ h }
-  past-then (suc n) mid other after o rows es e f h =
+  past-then (suc n) mid other after o rows xs e f h =
       record { way = λ l s whole q. jumps after (jump-at t mid o h (inl (omega arith))) q; part = rw e (part-later t mid o h) }
 
   -- the rounds of a while, by induction on a bound of the steps left
@@ -187,12 +188,12 @@ module _ (w : Setting) (t : Compiled) (last : ℕ) where
 
   -- the rows of a command do what the command does
   mutual
-    unfolding rowsOf exprsOf size Shallow Literals exec
+    unfolding rowsOf cmdOperands size Shallow Exprs exec
 
-    does-cmd : (c : Cmd) (d r o : ℕ) → PartAt t r o (rowsOf c d r o) (exprsOf c) → Shallow d c → Literals Formed c → Does (exec w c) r (r + size c) d
+    does-cmd : (c : Cmd) (d r o : ℕ) → PartAt t r o (rowsOf c d r o) (cmdOperands c) → Shallow d c → Exprs SoundExpr c → Does (exec w c) r (r + size c) d
     does-cmd (cmd at b) d r o h s f = does-body b at d r o h s f
 
-    does-body : (b : Body) (at d r o : ℕ) → PartAt t r o (rowsBody b at d r o) (exprsBody b) → ShallowBody d b → LiteralsBody Formed b
+    does-body : (b : Body) (at d r o : ℕ) → PartAt t r o (rowsBody b at d r o) (bodyOperands b) → ShallowBody d b → ExprsBody SoundExpr b
         → Does (execBody w b at) r (r + sizeBody b) d
     does-body skip at d r o h s f = moved (omega arith) (does-skip r d)
     does-body (assign x v) at d r o h s f = does-assign r d at x v (assign-at t r o h s (f .0) (f .1))
@@ -201,41 +202,44 @@ module _ (w : Setting) (t : Compiled) (last : ℕ) where
         let mid = r + 1 + size c in
         let other = mid + between (size e) in
         let after = other + size e in
-        let n = o + 1 + length (exprsOf c) in
-        let first = rowsOf c (d + 1) (r + 1) (o + 1) in
+        let inner = o + length (operandsOf g) in
+        let n = inner + length (cmdOperands c) in
+        let first = rowsOf c (d + 1) (r + 1) inner in
         let second = rowsOf e (d + 1) other n in
         let rest = past (size e) after ++ second in
-        let parts : PartAt t (r + 1) (o + 1) (first ++ rest) (exprsOf c ++ exprsOf e) = part-tail t r o h in
-        let l : length first ≡ size c = rows-length c (d + 1) (r + 1) (o + 1) in
-        let on = past-then (size e) mid other after n second (exprsOf e) refl refl
-        (part-rest t (r + 1) (o + 1) first rest (exprsOf c) (exprsOf e) mid (omega arith) parts) in
+        let parts : PartAt t (r + 1) inner (first ++ rest) (cmdOperands c ++ cmdOperands e) = part-tail t r o (operandsOf g) (cmdOperands c ++ cmdOperands e) h in
+        let l : length first ≡ size c = rows-length c (d + 1) (r + 1) inner in
+        let on = past-then (size e) mid other after n second (cmdOperands e) refl refl
+        (part-rest t (r + 1) inner first rest (cmdOperands c) (cmdOperands e) mid (omega arith) parts) in
         moved (omega arith)
-        (does-if (exec w c) (exec w e) r mid other after d at g (guard-at t r o h (s .0) (f .0)) (on .way)
-        (does-cmd c (d + 1) (r + 1) (o + 1) (part-front t (r + 1) (o + 1) first rest (exprsOf c) (exprsOf e) parts) (s .1) (f .1))
+        (does-if (exec w c) (exec w e) r mid other after d at g (guard-at t r o (cmdOperands c ++ cmdOperands e) h (s .0) (f .0)) (on .way)
+        (does-cmd c (d + 1) (r + 1) inner (part-front t (r + 1) inner first rest (cmdOperands c) (cmdOperands e) parts) (s .1) (f .1))
         (does-cmd e (d + 1) other n (on .part) (s .2) (f .2)))
     does-body (while g c) at d r o h s f =
         let mid = r + 1 + size c in
-        let first = rowsOf c (d + 1) (r + 1) (o + 1) in
-        let a : GuardAt t r d at g (mid + 1) = guard-at t r o h (s .0) (f .0) in
-        let parts : PartAt t (r + 1) (o + 1) (first ++ (jumpRow r ∷ [])) (exprsOf c ++ []) = rw (append-nil (exprsOf c)) (part-tail t r o h) in
-        let l : length first ≡ size c = rows-length c (d + 1) (r + 1) (o + 1) in
-        let second = part-rest t (r + 1) (o + 1) first (jumpRow r ∷ []) (exprsOf c) [] mid (omega arith) parts in
+        let inner = o + length (operandsOf g) in
+        let first = rowsOf c (d + 1) (r + 1) inner in
+        let a : GuardAt t r d at g (mid + 1) = guard-at t r o (cmdOperands c) h (s .0) (f .0) in
+        let parts : PartAt t (r + 1) inner (first ++ (jumpRow r ∷ [])) (cmdOperands c ++ []) =
+        rw (append-nil (cmdOperands c)) (part-tail t r o (operandsOf g) (cmdOperands c) h) in
+        let l : length first ≡ size c = rows-length c (d + 1) (r + 1) inner in
+        let second = part-rest t (r + 1) inner first (jumpRow r ∷ []) (cmdOperands c) [] mid (omega arith) parts in
         moved (omega arith)
         (does-while c r mid d at g a (jump-at t mid _ second (inr (ap (λ (y : List ℕ). getD y 0 0) (a .holds))))
-        (does-cmd c (d + 1) (r + 1) (o + 1) (part-front t (r + 1) (o + 1) first (jumpRow r ∷ []) (exprsOf c) [] parts) (s .1) (f .1)))
+        (does-cmd c (d + 1) (r + 1) inner (part-front t (r + 1) inner first (jumpRow r ∷ []) (cmdOperands c) [] parts) (s .1) (f .1)))
 
-    does-all : (cs : Cmds) (d r o : ℕ) → PartAt t r o (rowsAll cs d r o) (exprsAll cs) → ShallowAll d cs → LiteralsAll Formed cs
+    does-all : (cs : Cmds) (d r o : ℕ) → PartAt t r o (rowsAll cs d r o) (allOperands cs) → ShallowAll d cs → ExprsAll SoundExpr cs
         → Does (execs w cs) r (r + sizeAll cs) d
     does-all nil d r o h s f = moved (omega arith) (does-skip r d)
     does-all (cons c cs) d r o h s f =
         let mid = r + size c in
-        let n = o + length (exprsOf c) in
+        let n = o + length (cmdOperands c) in
         let first = rowsOf c d r o in
         let rest = rowsAll cs d mid n in
         moved (omega arith)
         (does-both (exec w c) (execs w cs) r mid (mid + sizeAll cs) d
-        (does-cmd c d r o (part-front t r o first rest (exprsOf c) (exprsAll cs) h) (s .0) (f .0))
-        (does-all cs d mid n (part-rest t r o first rest (exprsOf c) (exprsAll cs) mid (omega (arith, rows-length c d r o)) h) (s .1) (f .1)))
+        (does-cmd c d r o (part-front t r o first rest (cmdOperands c) (allOperands cs) h) (s .0) (f .0))
+        (does-all cs d mid n (part-rest t r o first rest (cmdOperands c) (allOperands cs) mid (omega (arith, rows-length c d r o)) h) (s .1) (f .1)))
 
 -- A block that stands in the tables runs as its command does, from its first row to its end row.
 pub block-runs : (w : Setting) (t : Compiled) (r o : ℕ) (c : Cmd) → BlockAt t r o c → (l : List Label) (s : State) → length l ≡ mostDeep + 1
@@ -244,10 +248,10 @@ block-runs w t r o c a l s n h =
     let first = rowsOf c 0 r o in
     let e : length first ≡ size c = rows-length c 0 r o in
     let whole : r + length (first ++ (endRow ∷ [])) ≤ mostRows = omega (arith, a .fits, length-append first (endRow ∷ [])) in
-    let block : PartAt t r o (first ++ (endRow ∷ [])) (exprsOf c) = record { rows-at = a .rows; exprs-at = a .exprs; fits = whole } in
-    let parts : PartAt t r o (first ++ (endRow ∷ [])) (exprsOf c ++ []) = rw (append-nil (exprsOf c)) block in
-    let close = end-at t _ _ (part-rest t r o first (endRow ∷ []) (exprsOf c) [] (r + size c) (omega arith) parts) in
-    let body = part-front t r o first (endRow ∷ []) (exprsOf c) [] parts in
+    let block : PartAt t r o (first ++ (endRow ∷ [])) (cmdOperands c) = record { rows-at = a .rows; operands-at = a .operands; fits = whole } in
+    let parts : PartAt t r o (first ++ (endRow ∷ [])) (cmdOperands c ++ []) = rw (append-nil (cmdOperands c)) block in
+    let close = end-at t _ _ (part-rest t r o first (endRow ∷ []) (cmdOperands c) [] (r + size c) (omega arith) parts) in
+    let body = part-front t r o first (endRow ∷ []) (cmdOperands c) [] parts in
     rw (sym (bind-ok (exec w c (getD l 0 0) s)))
-    (does-cmd w t (r + size c) c 0 r o body (a .sound .shallow) (a .sound .formed) .does
+    (does-cmd w t (r + size c) c 0 r o body (a .sound .shallow) (a .sound .exprs) .does
     (getD l 0 0) l s (λ u. ok u) n h refl (λ u m _ _. ends refl close refl))

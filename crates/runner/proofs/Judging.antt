@@ -5,19 +5,21 @@ use mathlib.Core.Bool.{Bool, true, false, true≢false, false≢true}
 use mathlib.Core.List.{List, [], _∷_}
 use lib.Dec.{eqb}
 use lib.Bits.{bitAnd}
-use borrow.Author.Tests.{eq-eqb, ne-eqb}
+use borrow.Author.Tests.{eq-eqb, ne-eqb, eqb-true}
 use Rattle.lattice.specs.Tests.{_and_, _or_, _implies_}
 use Rattle.lattice.specs.Order.{Label, bit}
 use Rattle.lattice.proofs.Bits.{bit-and}
-use Rattle.store.specs.Result.{ok, _>>=_, require}
-use Rattle.store.specs.Value.{truth, isWriteView}
+use Rattle.store.specs.Result.{Result, ok, refuse, _>>=_, require}
+use Rattle.store.specs.Value.{truth, writeView, isWriteView}
 use Rattle.store.specs.Sheet.{ownerOf, mostSlots}
+use Rattle.store.proofs.Result.{Post, Any, post-ok, post-all, post-require, post-at, post-bind}
 use Rattle.programme.specs.Syntax.{Expr}
 use Rattle.calculus.specs.Rules.{RuleSet, accessControl, capability, explicitProvenance, fullProvenance, labelsJudged, allAbove}
 use Rattle.calculus.specs.Calculus.{Setting, Store, Labelled, authorised, reliable, eval, judge, permit, assignment}
 use Rattle.runner.specs.Answers.{Got, Judging, judgingBy, judging, Making}
 use Rattle.runner.specs.declared.rules.Terms.{Terms}
 use Rattle.runner.specs.Held.{LabelHeld, judgesLabels, judgesBranch, Serves, ValueHeld, EvaluatedAs, JudgedAs, MadeAs}
+use Rattle.runner.specs.Evaluating.{aimed}
 use Rattle.runner.proofs.Labels.{bit-held, bits-held}
 use Rattle.runner.proofs.Admission.{in-region}
 use Rattle.runner.proofs.Chain.{gave, refused}
@@ -145,36 +147,74 @@ module _ (w : Setting) (s : Store) (g : Expr) where
     pub judge-truth : k ≡ truth → JudgedAs (w .tables .order) (judging (record { refusal = 0; passes = eqb p 1; label = l })) (judge w s g)
     judge-truth q = by-payload (eqb p 1) q refl
 
--- an assignment: its target is refused, or no write view; its value is refused; it is judged
+-- a target: its expression is refused, it is no write view, it is one
+module _ (w : Setting) (s : Store) (e : Expr) where
+  pub aim-refused : {n : ℕ} → EvaluatedAs (w .tables .order) (Got.Refused n) (eval w s e) → EvaluatedAs (w .tables .order) (Got.Refused n) (aimed w s e)
+  unfolding aimed _>>=_
+  aim-refused a = rw (refused a) EvaluatedAs.refuses
+
+  aim-by : (k p l : ℕ) (x : Labelled) (b : Bool) → eval w s e ≡ ok x → ValueHeld (w .tables .order) x k p l
+      → isWriteView (record { kind = k; payload = p }) ≡ b → aimed w s e ≡ require b 13 (ok x)
+  unfolding aimed _>>=_
+  aim-by k p l x b r h q = rw (r, h .kind, q) refl
+
+  module _ {k p l : ℕ} (a : EvaluatedAs (w .tables .order) (Got.Value k p l) (eval w s e)) where
+    pub aim-kind : isWriteView (record { kind = k; payload = p }) ≡ false → EvaluatedAs (w .tables .order) (Got.Refused 13) (aimed w s e)
+    unfolding require
+    aim-kind q = let d = gave a in rw (aim-by k p l (d .answer) false (d .same) (d .held) q) EvaluatedAs.refuses
+
+    pub aim-view : isWriteView (record { kind = k; payload = p }) ≡ true → EvaluatedAs (w .tables .order) (Got.Value k p l) (aimed w s e)
+    unfolding require
+    aim-view q = let d = gave a in rw (aim-by k p l (d .answer) true (d .same) (d .held) q) (EvaluatedAs.gives (d .held))
+
+  -- what is aimed at is a write view
+  pub aimed-view : {k p l : ℕ} → EvaluatedAs (w .tables .order) (Got.Value k p l) (aimed w s e) → k ≡ writeView
+  unfolding aimed
+  aimed-view {k} a =
+      let d = gave a in
+      sym (d .held .kind) ∙ eqb-true (d .answer .value .kind) writeView (post-at Views Any _ (d .answer) views (d .same))
+    where
+      Views : Labelled → Type 0
+      Views x = isWriteView (x .value) ≡ true
+
+      views : Post Views Any (aimed w s e)
+      views =
+          post-bind (λ x. Unit {0}) Views Any (eval w s e) _ (post-all _ _ (eval w s e) (λ x. tt) (λ n. tt))
+          (λ x _. post-require Views Any _ 13 _ (λ q. post-ok Views Any x q) (λ _. tt))
+
+-- an assignment: its target is refused; its value is refused; it is judged
 module _ (w : Setting) (s : Store) (b : Label) (x y : Expr) where
-  pub assign-refused : {n : ℕ} → EvaluatedAs (w .tables .order) (Got.Refused n) (eval w s x)
+  targeted : assignment w b s x y ≡ (aimed w s x >>= λ z. eval w s y >>= permit w b z)
+  unfolding assignment aimed require _>>=_
+  targeted = go (eval w s x)
+    where
+      by : (z : Labelled) (t : Bool)
+          → require t 13 (eval w s y >>= permit w b z) ≡ (require t 13 (ok z) >>= λ z. eval w s y >>= permit w b z)
+      by z true = refl
+      by z false = refl
+
+      go : (r : Result ℕ Labelled) → (r >>= λ z. require (isWriteView (z .value)) 13 (eval w s y >>= permit w b z))
+          ≡ (r >>= (λ z. require (isWriteView (z .value)) 13 (ok z)) >>= λ z. eval w s y >>= permit w b z)
+      go (ok z) = by z (isWriteView (z .value))
+      go (refuse n) = refl
+
+  pub assign-refused : {n : ℕ} → EvaluatedAs (w .tables .order) (Got.Refused n) (aimed w s x)
       → MadeAs (w .tables) (Making.Refused n) (assignment w b s x y)
-  unfolding assignment _>>=_
-  assign-refused a = rw (refused a) MadeAs.refuses
+  unfolding _>>=_
+  assign-refused a = rw (targeted, refused a) MadeAs.refuses
 
-  targeted : (k p l : ℕ) (z : Labelled) → eval w s x ≡ ok z → ValueHeld (w .tables .order) z k p l
-      → isWriteView (record { kind = k; payload = p }) ≡ true → assignment w b s x y ≡ (eval w s y >>= permit w b z)
-  unfolding assignment _>>=_ require
-  targeted k p l z r h q = rw (r, h .kind, q) refl
-
-  module _ {k p l : ℕ} (a : EvaluatedAs (w .tables .order) (Got.Value k p l) (eval w s x)) where
-    pub assign-kind : isWriteView (record { kind = k; payload = p }) ≡ false → MadeAs (w .tables) (Making.Refused 13) (assignment w b s x y)
-    unfolding assignment _>>=_ require
-    assign-kind q = let d = gave a in rw (d .same, d .held .kind, q) MadeAs.refuses
-
-    pub assign-value-refused : {n : ℕ} → isWriteView (record { kind = k; payload = p }) ≡ true → EvaluatedAs (w .tables .order) (Got.Refused n) (eval w s y)
+  module _ {k p l : ℕ} (a : EvaluatedAs (w .tables .order) (Got.Value k p l) (aimed w s x)) where
+    pub assign-value-refused : {n : ℕ} → EvaluatedAs (w .tables .order) (Got.Refused n) (eval w s y)
         → MadeAs (w .tables) (Making.Refused n) (assignment w b s x y)
     unfolding _>>=_
-    assign-value-refused q u =
-        let d = gave a in rw (targeted k p l (d .answer) (d .same) (d .held) q, refused u) MadeAs.refuses
+    assign-value-refused u = rw (targeted, gave a .same, refused u) MadeAs.refuses
 
-    pub assign-judged : {i j n : ℕ} (r : Making) → isWriteView (record { kind = k; payload = p }) ≡ true → EvaluatedAs (w .tables .order) (Got.Value i j n) (eval w s y)
+    pub assign-judged : {i j n : ℕ} (r : Making) → EvaluatedAs (w .tables .order) (Got.Value i j n) (eval w s y)
         → ((x′ y′ : Labelled) → x′ .value .payload ≡ p → LabelHeld (w .tables .order) (x′ .label) l
         → ValueHeld (w .tables .order) y′ i j n → MadeAs (w .tables) r (permit w b x′ y′))
         → MadeAs (w .tables) r (assignment w b s x y)
     unfolding _>>=_
-    assign-judged r q u f =
+    assign-judged r u f =
         let d = gave a in
         let u′ = gave u in
-        rw (targeted k p l (d .answer) (d .same) (d .held) q, u′ .same)
-        (f (d .answer) (u′ .answer) (d .held .payload) (d .held .label) (u′ .held))
+        rw (targeted, d .same, u′ .same) (f (d .answer) (u′ .answer) (d .held .payload) (d .held .label) (u′ .held))

@@ -3,6 +3,10 @@ pub mod Rows
 pub mod Labels
 pub mod Admission
 pub mod Chain
+pub mod Operating
+pub mod Folding
+pub mod Waiting
+pub mod Turns
 pub mod Judging
 pub mod Serving
 pub mod Writing
@@ -11,6 +15,8 @@ pub mod Taking
 pub mod Going
 pub mod Standing
 pub mod Compiling
+pub mod Evaluating
+pub mod Starting
 pub mod Playing
 pub mod Ending
 pub mod Taken

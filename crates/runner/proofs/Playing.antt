@@ -13,7 +13,7 @@ use Rattle.programme.specs.declared.Header.{Header}
 use Rattle.programme.specs.Syntax.{Cmd}
 use Rattle.programme.specs.Code.{mostDeep}
 use Rattle.programme.specs.Sheet.{Block, headerAt}
-use Rattle.programme.specs.Rows.{size, exprsOf, mostRows}
+use Rattle.programme.specs.Rows.{size, cmdOperands, mostRows}
 use Rattle.calculus.specs.Rules.{RuleSet}
 use Rattle.calculus.specs.Calculus.{Setting, State, Stop, exec}
 use Rattle.calculus.specs.Blocks.{Halt, haltIn, setting, runBlocks}
@@ -175,7 +175,7 @@ module _ (w : Tables) (rules : RuleSet) (g : Played) (p : List ℕ) (k : ℕ) wh
             rest = n .rest;
             count = omega (arith, rw (n .is) at (l .count));
             headers = headers .2;
-            operand = l .operand + length (exprsOf (n .block .command));
+            operand = l .operand + length (cmdOperands (n .block .command));
             stand = rw (x .0) (stand .1);
             state = d .state;
             store-held = d .held .store;

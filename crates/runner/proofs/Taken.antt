@@ -12,15 +12,17 @@ use Rattle.store.specs.Sheet.{Opening, mostSlots}
 use Rattle.store.specs.Held.{openedOf}
 use Rattle.store.proofs.Result.{post-at}
 use Rattle.store.proofs.Bytes.{formed-more}
+use Rattle.programme.specs.Syntax.{LiteralsOf}
+use Rattle.programme.specs.Code.{mostNested}
 use Rattle.programme.specs.Sheet.{Block, kOf, blocksFrom, programmeSheet}
-use Rattle.programme.specs.Rows.{Compiled, mostRows, mostOperands}
+use Rattle.programme.specs.Rows.{Compiled, Nests, mostRows, mostOperands}
 use Rattle.programme.specs.Reading.{Compiles}
-use Rattle.programme.proofs.Formed.{block-literals}
-use Rattle.programme.proofs.Literals.{literals-join}
+use Rattle.programme.proofs.Formed.{block-literals, block-nests}
+use Rattle.programme.proofs.Literals.{exprs-join, literals-join}
 use Rattle.programme.proofs.Shallow.{block-shallow}
 use Rattle.programme.proofs.Fits.{compiled-fits}
 use Rattle.programme.proofs.Starts.{programmed}
-use Rattle.runner.specs.Running.{AllSound, BlocksAt}
+use Rattle.runner.specs.Running.{Formed, SoundExpr, AllSound, BlocksAt}
 use Rattle.runner.specs.Whole.{OpeningHeld}
 use Rattle.runner.proofs.Standing.{blocks-stand}
 use Rattle.runner.proofs.Ending.{next-block, none-left}
@@ -32,11 +34,12 @@ blocks-sound m p zero i bs few h = rw (none-left m p i bs h) tt
 blocks-sound m p (suc n) i bs few h =
     let x = next-block m p n i bs h in
     let f = post-at _ _ _ _ (block-literals m _) (x .reads) in
+    let k = post-at _ _ _ _ (block-nests m _) (x .reads) in
     rw (x .is) (
       record {
         shallow = block-shallow m _ (x .command) (x .reads);
-        formed = literals-join (λ (v : Value). wellFormed m v ≡ true) (λ (v : Value). wellFormed m v ≡ true) (λ (v : Value). wellFormed mostSlots v ≡ true)
-            (λ v a b. formed-more m v a mostSlots few) (x .command) f f;
+        exprs = exprs-join (LiteralsOf Formed) (Nests mostNested) SoundExpr (λ e a b. record { formed = a; nests = b }) (x .command)
+            (literals-join (λ (v : Value). wellFormed m v ≡ true) (λ (v : Value). wellFormed m v ≡ true) Formed (λ v a b. formed-more m v a mostSlots few) (x .command) f f) k;
       },
       blocks-sound m p n (i + 1) (x .rest) few (x .after),
     )

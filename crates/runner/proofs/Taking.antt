@@ -18,8 +18,8 @@ use Rattle.runner.specs.declared.steps.Judged.{Judged as Outcome}
 use Rattle.runner.specs.declared.steps.Made.{Made}
 use Rattle.runner.specs.Answers.{Judging, judging, Making, making, Control, control}
 use Rattle.runner.specs.Held.{LabelHeld, Serves, JudgedAs, MadeAs}
-use Rattle.runner.specs.Running.{rowAt, next}
-use Rattle.runner.specs.Contracts.{Grounds, grounds, Operands, operandsOf, Behind, CanJudge, SomeExpr, JudgesGuard, JudgesAssignment, PutsWrite}
+use Rattle.runner.specs.Running.{rowAt, operandTables, next}
+use Rattle.runner.specs.Contracts.{Grounds, grounds, Behind, CanJudge, SomeExpr, JudgesGuard, JudgesAssignment, PutsWrite}
 use Rattle.runner.specs.Machine.{Given, Place, GoesOn, Moves, Within, Moved, CanGo, CanStep}
 use Rattle.runner.proofs.Answered.{judging-passes, judging-fails, judging-refused, making-write, making-refused, control-stopped}
 use Rattle.runner.proofs.Moving.{step-made, step-refused, assign-not-17, judge-not-17, TakesAssign, TakesGuard, assign-goes, assign-ends, guard-goes, guard-ends, entry, takes-assign, takes-guard, run-inside, labels-inside, less-step, less-stop}
@@ -78,9 +78,6 @@ secondAt t r = getD (rowAt t r) 4 0
 abbrev pub groundsAt : Given → Place → Grounds
 groundsAt g p = grounds (g .terms) (g .masks) (p .store)
 
-abbrev pub operandsIn : Given → Operands
-operandsIn g = operandsOf (g .tables .operands) (g .tables .payloads)
-
 module _ (g : Given) {w : Setting} {last : ℕ} {p : Place} {whole : Result Stop State} (h : Serves w (g .terms) (g .masks)) (o : GoesOn w (g .tables) last p whole) where
   behind : Behind (groundsAt g p) w (o .state .store)
   behind = record { serves = h; held = o .state-held .store }
@@ -110,12 +107,12 @@ module _ {g : Given} {p : Place} {depth target value : ℕ} (c : CanStep assignK
       let t = takes-assign (c .can .goes .runs) (c .is) in
       omega (arith, n .depth-is, entry 1 (t .stands .holds), t .stands .level)
 
-  pub assign-operands : SomeExpr (operandsIn g) target × SomeExpr (operandsIn g) value
+  pub assign-operands : SomeExpr (operandTables (g .tables)) target × SomeExpr (operandTables (g .tables)) value
   assign-operands =
       let t = takes-assign (c .can .goes .runs) (c .is) in
       rw (n .target-is, n .value-is, t .stands .holds) (record { expr = t .x; is = t .stands .target-is }, record { expr = t .v; is = t .stands .value-is })
 
-  module _ (m : Made) (a : JudgesAssignment (groundsAt g p) (operandsIn g) target value (getD (p .labels) depth 0) (making m)) where
+  module _ (m : Made) (a : JudgesAssignment (groundsAt g p) (operandTables (g .tables)) target value (getD (p .labels) depth 0) (making m)) where
     made-as : {w : Setting} {last : ℕ} {whole : Result Stop State} → Serves w (g .terms) (g .masks) → (o : GoesOn w (g .tables) last p whole)
         → (t : TakesAssign w (g .tables) last (p .row) (o .labels) (o .state) whole)
         → MadeAs (w .tables) (making m) (assignment w (getD (o .labels) (t .depth) 0) (o .state .store) (t .x) (t .v))
@@ -187,12 +184,12 @@ module _ {g : Given} {p : Place} {depth operand : ℕ} (c : CanStep guardKind g 
       let t = takes-guard (c .can .goes .runs) (c .is) in
       omega (arith, n .depth-is, entry 1 (t .stands .holds), t .stands .level)
 
-  pub guard-operand : SomeExpr (operandsIn g) operand
+  pub guard-operand : SomeExpr (operandTables (g .tables)) operand
   guard-operand =
       let t = takes-guard (c .can .goes .runs) (c .is) in
       rw (n .operand-is, t .stands .holds) (record { expr = t .g; is = t .stands .operand-is })
 
-  module _ (v : Outcome) (a : JudgesGuard (groundsAt g p) (operandsIn g) operand (judging v)) where
+  module _ (v : Outcome) (a : JudgesGuard (groundsAt g p) (operandTables (g .tables)) operand (judging v)) where
     judged-as : {w : Setting} {last : ℕ} {whole : Result Stop State} → Serves w (g .terms) (g .masks) → (o : GoesOn w (g .tables) last p whole)
         → (t : TakesGuard w (g .tables) last (p .row) (o .labels) (o .state) whole)
         → JudgedAs (w .tables .order) (judging v) (judge w (o .state .store) (t .g))

@@ -1,5 +1,5 @@
 -- A held store after a write: only the written slot's row changes. Assumes nothing.
-use Prim.Native.Nat.{ℕ, zero, suc, _<_}
+use Prim.Native.Nat.{ℕ, zero, suc, _+_, _<_}
 use mathlib.Core.Path.{_≡_, refl, sym, ap, ap₂, _∙_}
 use mathlib.Core.Bool.{true}
 use mathlib.Core.List.{List, [], _∷_}
@@ -7,28 +7,28 @@ use native.Mathlib.Omega.{arith}
 use native.Mathlib.Decide.{ℕ-discrete}
 use lib.ListN.{getD, set, length-set}
 use lib.Seq.{getD-set-same, getD-set-other}
-use Rattle.store.specs.Bytes.{table}
+use Rattle.store.specs.Bytes.{entries, table}
 use Rattle.store.specs.Value.{wellFormed, Slot, assigned, emptySlot}
 use Rattle.store.specs.Sheet.{Tables, ownerOf, mostSlots}
 use Rattle.store.specs.Held.{rowOf, heldOf}
+use Rattle.store.proofs.Fill.{entries-same}
 use Rattle.calculus.specs.Calculus.{Store, contents, Write, written}
 use Rattle.runner.specs.Held.{StoreHeld}
 
 module _ {A : Type 0} where
-  table-same : (n : ℕ) (f g : ℕ → A) → ((k : ℕ) → f k ≡ g k) → table n f ≡ table n g
-  unfolding table
-  table-same zero f g h = refl
-  table-same (suc n) f g h = ap₂ (λ (a : A) (l : List A). a ∷ l) (h 0) (table-same n (λ i. f (suc i)) (λ i. g (suc i)) (λ k. h (suc k)))
+  -- an entry that is set makes the entries of a function that differs there only
+  entries-set : (i n : ℕ) (f g : ℕ → A) (j : ℕ) (a : A) → ((k : ℕ) → (k ≡ i + j → ⊥) → f k ≡ g k) → g (i + j) ≡ a
+      → set (entries i n f) j a ≡ entries i n g
+  unfolding entries
+  entries-set i zero f g j a h q = refl
+  entries-set i (suc n) f g zero a h q =
+      ap₂ (λ (b : A) (l : List A). b ∷ l) (sym q ∙ ap g (omega arith)) (entries-same (i + 1) n f g (λ k l _. h k (λ e. omega arith)))
+  entries-set i (suc n) f g (suc j) a h q =
+      ap₂ (λ (b : A) (l : List A). b ∷ l) (h i (λ e. omega arith))
+      (entries-set (i + 1) n f g j a (λ k e. h k (λ d. e (omega arith))) (ap g (omega arith) ∙ q))
 
-  -- an entry that is set is a table that differs there only
   table-set : (n : ℕ) (f g : ℕ → A) (i : ℕ) (a : A) → ((k : ℕ) → (k ≡ i → ⊥) → f k ≡ g k) → g i ≡ a → set (table n f) i a ≡ table n g
-  unfolding table
-  table-set zero f g i a h q = refl
-  table-set (suc n) f g zero a h q =
-      ap₂ (λ (b : A) (l : List A). b ∷ l) (sym q) (table-same n (λ j. f (suc j)) (λ j. g (suc j)) (λ k. h (suc k) (λ e. omega arith)))
-  table-set (suc n) f g (suc i) a h q =
-      ap₂ (λ (b : A) (l : List A). b ∷ l) (h 0 (λ e. omega arith))
-      (table-set n (λ j. f (suc j)) (λ j. g (suc j)) i a (λ k e. h (suc k) (λ d. e (omega arith))) q)
+  table-set n f g i a h q = entries-set 0 n f g i a (λ k e. h k (λ d. e (omega arith))) (ap g (omega arith) ∙ q)
 
 module _ (w : Tables) (s : Store) (x : Write) (rows : List (List ℕ)) (h : StoreHeld w s rows) (i k p o : ℕ)
     (formed : wellFormed mostSlots (x .value) ≡ true) (slot : x .slot ≡ i) (kind : x .value .kind ≡ k) (payload : x .value .payload ≡ p) (owner : ownerOf w i ≡ o) where

@@ -10,9 +10,10 @@ use Rattle.store.specs.Result.{Result, ok, _>>=_}
 use Rattle.store.specs.Value.{wellFormed}
 use Rattle.store.specs.Sheet.{mostSlots}
 use Rattle.store.specs.declared.Value.{Value}
-use Rattle.programme.specs.Syntax.{Expr, Cmd, Literals}
-use Rattle.programme.specs.Code.{mostDeep}
-use Rattle.programme.specs.Rows.{Compiled, assignRow, guardRow, jumpRow, endRow, guardKind, literalOf, operandOf, payloadOf, operandsOf, payloadsOf, exprsOf, rowsOf, size, Shallow, mostRows, mostOperands}
+use Rattle.programme.specs.declared.Operand.{Operand}
+use Rattle.programme.specs.Syntax.{Expr, Cmd, LiteralsOf, Exprs}
+use Rattle.programme.specs.Code.{mostNested, mostDeep}
+use Rattle.programme.specs.Rows.{Compiled, assignRow, guardRow, jumpRow, endRow, guardKind, operandsOf, headsOf, payloadsOf, cmdOperands, rowsOf, size, Nests, Shallow, mostRows, mostOperands}
 use Rattle.programme.specs.Sheet.{Block}
 use Rattle.calculus.specs.Calculus.{Setting, State, Stop, Judged, Write, judge, assignment, step, counted, performed}
 
@@ -26,12 +27,37 @@ kindAt t r = getD (rowAt t r) 0 0
 abbrev pub offsetAt : Compiled → ℕ → ℕ
 offsetAt t r = getD (rowAt t r) 2 0
 
--- an operand is an expression's; where its literal is a view, the slot is one that is held
-pub record OperandAt (operands : List (List ℕ)) (payloads : List ℕ) (o : ℕ) (e : Expr) : Type 0 where
-  pub inside : o < mostOperands
-  pub entry : getD operands o [] ≡ operandOf e
-  pub payload : getD payloads o 0 ≡ payloadOf e
-  pub formed : wellFormed mostSlots (literalOf e) ≡ true
+-- A list stands in a table, from the i-th entry on
+pub record StandsAt {A : Type 0} (none : A) (table : List A) (i : ℕ) (xs : List A) : Type 0 where
+  pub at : (j : ℕ) → j < length xs → getD table (i + j) none ≡ getD xs j none
+
+-- the operands' tables
+pub record Operands : Type 0 where
+  pub heads : List (List ℕ)
+  pub payloads : List ℕ
+
+abbrev pub operandTables : Compiled → Operands
+operandTables t = record { heads = t .operands; payloads = t .payloads }
+
+-- operands stand there, from operand o on
+pub record OperandsAt (t : Operands) (o : ℕ) (xs : List Operand) : Type 0 where
+  pub heads : StandsAt [] (t .heads) o (headsOf xs)
+  pub payloads : StandsAt 0 (t .payloads) o (payloadsOf xs)
+  pub fits : o + length xs ≤ mostOperands
+
+-- a view names a slot that is held
+abbrev pub Formed : Value → Type 0
+Formed v = wellFormed mostSlots v ≡ true
+
+-- what the reader made sure of an expression
+pub record SoundExpr (e : Expr) : Type 0 where
+  pub formed : LiteralsOf Formed e
+  pub nests : Nests mostNested e
+
+-- an expression stands as operands, from operand o on
+pub record ExprAt (t : Operands) (o : ℕ) (e : Expr) : Type 0 where
+  pub stands : OperandsAt t o (operandsOf e)
+  pub sound : SoundExpr e
 
 -- what a row holds
 pub record AssignAt (t : Compiled) (r depth at : ℕ) (x v : Expr) : Type 0 where
@@ -40,15 +66,15 @@ pub record AssignAt (t : Compiled) (r depth at : ℕ) (x v : Expr) : Type 0 wher
   pub holds : rowAt t r ≡ assignRow depth at target value
   pub early : r < mostRows
   pub level : depth ≤ mostDeep
-  pub target-is : OperandAt (t .operands) (t .payloads) target x
-  pub value-is : OperandAt (t .operands) (t .payloads) value v
+  pub target-is : ExprAt (operandTables t) target x
+  pub value-is : ExprAt (operandTables t) value v
 
 pub record GuardAt (t : Compiled) (r depth at : ℕ) (g : Expr) (other : ℕ) : Type 0 where
   pub operand : ℕ
   pub holds : rowAt t r ≡ guardRow depth at operand other
   pub early : r < mostRows
   pub level : depth < mostDeep
-  pub operand-is : OperandAt (t .operands) (t .payloads) operand g
+  pub operand-is : ExprAt (operandTables t) operand g
 
 -- a jump leads on, or back to a guard, which takes a step
 pub record JumpAt (t : Compiled) (r target : ℕ) : Type 0 where
@@ -83,32 +109,22 @@ module _ (w : Setting) (t : Compiled) (last : ℕ) where
     jumps : {r : ℕ} {l : List Label} {s : State} {whole : Result Stop State} (target : ℕ)
         → JumpAt t r target → Runs target l s whole → Runs r l s whole
 
--- A list stands in a table, from the i-th entry on
-pub record StandsAt {A : Type 0} (none : A) (table : List A) (i : ℕ) (xs : List A) : Type 0 where
-  pub at : (j : ℕ) → j < length xs → getD table (i + j) none ≡ getD xs j none
-
--- expressions stand as operands, from operand o on
-pub record ExprsAt (t : Compiled) (o : ℕ) (es : List Expr) : Type 0 where
-  pub heads : StandsAt [] (t .operands) o (operandsOf es)
-  pub payloads : StandsAt 0 (t .payloads) o (payloadsOf es)
-  pub fits : o + length es ≤ mostOperands
-
--- what the reader made sure of: guards nest no deeper than there are branch labels, and views name slots
+-- what the reader made sure of: guards nest no deeper than there are branch labels, and of every expression
 pub record Sound (c : Cmd) : Type 0 where
   pub shallow : Shallow 0 c
-  pub formed : Literals (λ (v : Value). wellFormed mostSlots v ≡ true) c
+  pub exprs : Exprs SoundExpr c
 
 -- a block stands in the tables, from row r and operand o on, closed by its end row
 pub record BlockAt (t : Compiled) (r o : ℕ) (c : Cmd) : Type 0 where
   pub rows : StandsAt [] (t .rows) r (rowsOf c 0 r o ++ (endRow ∷ []))
-  pub exprs : ExprsAt t o (exprsOf c)
+  pub operands : OperandsAt (operandTables t) o (cmdOperands c)
   pub fits : r + size c < mostRows
   pub sound : Sound c
 
 -- blocks stand there one after the other
 unfoldable pub BlocksAt : Compiled → ℕ → ℕ → List Block → Type 0
 BlocksAt t r o [] = Unit {0}
-BlocksAt t r o (b ∷ bs) = BlockAt t r o (b .command) × BlocksAt t (r + size (b .command) + 1) (o + length (exprsOf (b .command))) bs
+BlocksAt t r o (b ∷ bs) = BlockAt t r o (b .command) × BlocksAt t (r + size (b .command) + 1) (o + length (cmdOperands (b .command))) bs
 
 -- every block's command is one that the reader lets pass
 unfoldable pub AllSound : List Block → Type 0

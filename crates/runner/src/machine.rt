@@ -130,7 +130,9 @@ fn take_guard(
             row: row + 1,
         };
     }
-    let other = wide16(r[Row::SECOND]);
+    // (Read again, and not held since the first reading: the passing way needs no register for it.)
+    let again = rows[row];
+    let other = wide16(again[Row::SECOND]);
     Next {
         refusal: 0,
         steps: steps + 1,

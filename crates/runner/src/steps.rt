@@ -3,7 +3,7 @@ ghost use mathlib.Core.Path.{_≡_};
 ghost use Prim.Native.Nat.{_<_};
 ghost use Rattle.store.specs.Sheet.{mostSlots};
 ghost use Rattle.runner.specs.Answers.{Judging, judging, Making, making};
-ghost use Rattle.runner.specs.Contracts.{grounds, operandsOf, CanJudge, SomeExpr, JudgesGuard, Relies, Permits, JudgesAssignment};
+ghost use Rattle.runner.specs.Contracts.{grounds, bothTables, CanJudge, SomeExpr, JudgesGuard, Relies, Permits, JudgesAssignment};
 use super::expressions;
 use super::rules::Terms;
 use super::slots;
@@ -51,10 +51,10 @@ pub(crate) fn judge(
     terms: Terms,
     o: usize,
 ) -> Judged
-    requires { ⌜ CanJudge (grounds terms (now masks) (now held)) × SomeExpr (operandsOf (now operands) (now payloads)) o ⌝ }
-    ensures { λ r. ⌜ JudgesGuard (grounds terms (now (masks .entry)) (now (held .entry))) (operandsOf (now (operands .entry)) (now (payloads .entry))) o (judging r) ⌝ }
+    requires { ⌜ CanJudge (grounds terms (now masks) (now held)) × SomeExpr (bothTables (now operands) (now payloads)) o ⌝ }
+    ensures { λ r. ⌜ JudgesGuard (grounds terms (now (masks .entry)) (now (held .entry))) (bothTables (now (operands .entry)) (now (payloads .entry))) o (judging r) ⌝ }
 {
-    let x = expressions::eval(operands, payloads, held, masks, terms, o);
+    let x = expressions::eval_guard(operands, payloads, held, masks, terms, o);
     let number = x.refusal;
     let kind = x.kind;
     let payload = x.payload;
@@ -150,17 +150,13 @@ pub(crate) fn assign(
     value: usize,
     branch: u32,
 ) -> Made
-    requires { ⌜ CanJudge (grounds terms (now masks) (now held)) × SomeExpr (operandsOf (now operands) (now payloads)) target × SomeExpr (operandsOf (now operands) (now payloads)) value ⌝ }
-    ensures { λ r. ⌜ JudgesAssignment (grounds terms (now (masks .entry)) (now (held .entry))) (operandsOf (now (operands .entry)) (now (payloads .entry))) target value branch (making r) ⌝ }
+    requires { ⌜ CanJudge (grounds terms (now masks) (now held)) × SomeExpr (bothTables (now operands) (now payloads)) target × SomeExpr (bothTables (now operands) (now payloads)) value ⌝ }
+    ensures { λ r. ⌜ JudgesAssignment (grounds terms (now (masks .entry)) (now (held .entry))) (bothTables (now (operands .entry)) (now (payloads .entry))) target value branch (making r) ⌝ }
 {
-    let x = expressions::eval(operands, payloads, held, masks, terms, target);
+    let x = expressions::aim(operands, payloads, held, masks, terms, target);
     let number = x.refusal;
-    let kind = x.kind;
     if number != 0 {
         return refused_write(number);
-    }
-    if !store::is_write_view(kind) {
-        return refused_write(Answer::WRONG_KIND);
     }
     let y = expressions::eval(operands, payloads, held, masks, terms, value);
     let barred = y.refusal;

@@ -11,32 +11,41 @@ use Rattle.lattice.proofs.Tests.{iff}
 use lib.Dec.{ltb}
 use lib.ListN.{length, getD, set, replicate, length-set}
 use lib.Seq.{getD-set-same, getD-set-other, ext-getD}
-use Rattle.store.specs.Bytes.{table, filled}
+use Rattle.store.specs.Bytes.{entries, table, filled}
 
 module _ {A : Type 0} where
+  length-entries : (i n : ℕ) (f : ℕ → A) → length (entries i n f) ≡ n
+  unfolding entries
+  length-entries i zero f = refl
+  length-entries i (suc n) f = ap suc (length-entries (i + 1) n f)
+
   pub length-table : (n : ℕ) (f : ℕ → A) → length (table n f) ≡ n
-  unfolding table
-  length-table zero f = refl
-  length-table (suc n) f = ap suc (length-table n (λ i. f (suc i)))
+  length-table = length-entries 0
+
+  entries-at : (i n : ℕ) (f : ℕ → A) (d : A) (k : ℕ) → k < n → getD (entries i n f) k d ≡ f (i + k)
+  unfolding entries
+  entries-at i zero f d k h = absurd (not-suc-le-zero h)
+  entries-at i (suc n) f d zero h = ap f (omega arith)
+  entries-at i (suc n) f d (suc k) h = entries-at (i + 1) n f d k (le-of-suc-le-suc h) ∙ ap f (omega arith)
 
   pub table-at : (n : ℕ) (f : ℕ → A) (d : A) (k : ℕ) → k < n → getD (table n f) k d ≡ f k
-  unfolding table
-  table-at zero f d k h = absurd (not-suc-le-zero h)
-  table-at (suc n) f d zero h = refl
-  table-at (suc n) f d (suc k) h = table-at n (λ i. f (suc i)) d k (le-of-suc-le-suc h)
+  table-at n f d k h = entries-at 0 n f d k h ∙ ap f (omega arith)
 
-  -- equal entries, equal tables
+  -- equal at every number reached, equal entries
+  pub entries-same : (i n : ℕ) (f g : ℕ → A) → ((k : ℕ) → i ≤ k → k < i + n → f k ≡ g k) → entries i n f ≡ entries i n g
+  unfolding entries
+  entries-same i zero f g h = refl
+  entries-same i (suc n) f g h =
+      ap₂ (λ (x : A) (l : List A). x ∷ l) (h i (omega arith) (omega arith))
+      (entries-same (i + 1) n f g (λ k l m. h k (omega arith) (omega arith)))
+
   pub table-same : (n : ℕ) (f g : ℕ → A) → ((k : ℕ) → k < n → f k ≡ g k) → table n f ≡ table n g
-  unfolding table
-  table-same zero f g h = refl
-  table-same (suc n) f g h =
-      ap₂ (λ (x : A) (l : List A). x ∷ l) (h 0 (omega arith))
-      (table-same n (λ i. f (suc i)) (λ i. g (suc i)) (λ k l. h (suc k) (omega arith)))
+  table-same n f g h = entries-same 0 n f g (λ k _ l. h k (omega arith))
 
-  table-replicate : (n : ℕ) (d : A) → replicate n d ≡ table n (λ _. d)
-  unfolding table
-  table-replicate zero d = refl
-  table-replicate (suc n) d = ap (λ (l : List A). d ∷ l) (table-replicate n d)
+  entries-replicate : (i n : ℕ) (d : A) → replicate n d ≡ entries i n (λ _. d)
+  unfolding entries
+  entries-replicate i zero d = refl
+  entries-replicate i (suc n) d = ap (λ (l : List A). d ∷ l) (entries-replicate (i + 1) n d)
 
   -- an entry: filled or not
   unfoldable pub pick : Bool → A → A → A
@@ -59,7 +68,7 @@ module _ {A : Type 0} where
     -- a loop's start and its step
     pub filled-none : replicate size d ≡ filled size 0 f d
     unfolding filled
-    filled-none = table-replicate size d ∙ table-same size (λ _. d) _ (λ k h. rw (le-ltb k 0 (omega arith)) refl)
+    filled-none = entries-replicate 0 size d ∙ table-same size (λ _. d) _ (λ k h. rw (le-ltb k 0 (omega arith)) refl)
 
     other : (n k : ℕ) → (k ≡ n → ⊥) → ltb k n ≡ ltb k (n + 1)
     other n k ne =

@@ -8,3 +8,4 @@ pub mod Written
 pub mod Sheet
 pub mod Opening
 pub mod Signed
+pub mod Wrapping

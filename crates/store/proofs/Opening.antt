@@ -14,7 +14,7 @@ use Rattle.lattice.specs.Tests.{_or_}
 use Rattle.lattice.specs.Order.{good}
 use Rattle.lattice.proofs.Tests.{and-l, and-r}
 use Rattle.store.specs.Result.{Result, inTurn}
-use Rattle.store.specs.Bytes.{Bytes, part, table, filled}
+use Rattle.store.specs.Bytes.{Bytes, part, filled}
 use Rattle.store.specs.Value.{payloadWidth, wellFormed, valueAt, Slot, opened, emptySlot, slotWidth, slotBytes}
 use Rattle.store.specs.Sheet.{Opening, ownerOf, mostSlots, nOf, mOf, ownerAt, slotValueAt, orderOf, tablesOf, openingOf, Form, storeForm, valueGood, slotChecked, bodyChecked, sheetChecked, sizesAllowed, storeSheet, slotsBytes}
 use Rattle.store.specs.Held.{Ordered}

@@ -9,7 +9,7 @@ use lib.Dec.{ltb}
 use Rattle.lattice.specs.Order.{mostPrincipals}
 use Rattle.lattice.proofs.Tests.{and-l, and-r}
 use Rattle.store.specs.Result.{Result, ok, refuse, _>>=_}
-use Rattle.store.specs.Bytes.{table, filled}
+use Rattle.store.specs.Bytes.{filled}
 use Rattle.store.specs.Value.{opened, emptySlot}
 use Rattle.store.specs.Sheet.{Opening, Form, storeForm, nOf, mOf, ownerAt, slotValueAt, mostSlots, tablesOf, openingOf, sizesAllowed, slotChecked, sheetChecked, storeSheet, orderOf}
 use Rattle.store.specs.Held.{Sized, refusalOf, rowOf, rowAt, heldOf, openedOf, heldAfter}

@@ -23,10 +23,14 @@ numberBytes (suc width) x = x % 256 ∷ numberBytes width (x / 256)
 abbrev pub part : List ℕ → ℕ → ℕ → List ℕ
 part s at width = take width (drop at s)
 
--- f at 0, at 1, .. below n
-unfoldable pub table : {A : Type 0} → ℕ → (ℕ → A) → List A
-table zero f = []
-table (suc n) f = f 0 ∷ table n (λ i. f (suc i))
+-- n entries: f at i, at i + 1, ..
+unfoldable pub entries : {A : Type 0} → ℕ → ℕ → (ℕ → A) → List A
+entries i zero f = []
+entries i (suc n) f = f i ∷ entries (i + 1) n f
+
+-- n entries: f at 0, at 1, ..
+abbrev pub table : {A : Type 0} → ℕ → (ℕ → A) → List A
+table n f = entries 0 n f
 
 -- an array of `size` entries: those below n are f's, the others d
 unfoldable pub filled : {A : Type 0} → ℕ → ℕ → (ℕ → A) → A → List A

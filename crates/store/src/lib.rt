@@ -1,11 +1,15 @@
 // Values, slots, the store sheet and the table sheet. Definitions in specs/, laws in proofs/.
 mod held;
+mod integers;
 mod number;
 mod sheets;
 mod values;
 
 pub use held::open_store;
 pub use held::write_store;
+pub use integers::difference;
+pub use integers::less_than;
+pub use integers::sum;
 pub use number::number_at;
 pub use number::wide;
 pub use sheets::check_store;

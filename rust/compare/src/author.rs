@@ -5,14 +5,16 @@
 //! and minds the rules as far as its care goes: with all of it a programme
 //! finishes under every rule, with less some step is forbidden.
 
+mod expressions;
 mod large;
 mod loops;
 
-use crate::code::{Block, Command, Expression};
+use crate::code::{Block, Command};
+use crate::expressions::Expression;
 use crate::random::Random;
 use crate::rehearsal::Rehearsal;
 use crate::sheets::{Store, Table};
-use crate::values::{Kind, Value};
+use crate::values::Value;
 
 /// In percent, how often the author minds what a step is refused for.
 #[derive(Debug, Clone, Copy)]
@@ -58,8 +60,8 @@ pub struct Author<'a> {
     care: Care,
     region: u8,
     endorsed: bool,
-    /// The most reads in a row.
-    most_reads: usize,
+    /// How deep expressions may be.
+    most_depth: usize,
 }
 
 impl<'a> Author<'a> {
@@ -73,7 +75,7 @@ impl<'a> Author<'a> {
             care,
             region: 0,
             endorsed: false,
-            most_reads: Expression::MOST_READS,
+            most_depth: Expression::MOST_DEPTH,
         }
     }
 
@@ -86,9 +88,9 @@ impl<'a> Author<'a> {
     }
 
     /// Blocks of any region, some endorsed, as many as there is code for. Now
-    /// and then one read more than allowed may stand in a row.
+    /// and then expressions may be one deeper than allowed.
     pub fn programme(&mut self) -> Vec<Block> {
-        self.most_reads += usize::from(self.random.one_in(60));
+        self.most_depth += usize::from(self.random.one_in(60));
         let count = match self.random.below(20) {
             0 => 0,
             1..=12 => self.random.between(1, 3),
@@ -236,98 +238,6 @@ impl<'a> Author<'a> {
     fn floor(&mut self, slot: u8) -> Option<u8> {
         let minded = self.minds(self.care.labels) && !self.endorsed;
         minded.then(|| self.stage.table.owner(slot))
-    }
-
-    fn target(&mut self, slot: u8, floor: Option<u8>) -> Expression {
-        if !self.minds(self.care.kinds) {
-            return self.any_expression();
-        }
-        let wanted = Value::WriteView(slot);
-        let read = match self.random.percent(40) {
-            true => self.reading(|value| value == wanted, floor),
-            false => None,
-        };
-        read.unwrap_or(Expression::literal(wanted))
-    }
-
-    /// Mostly the slot keeps its kind, so that later reads find what they
-    /// expect.
-    fn value_for(&mut self, slot: u8, floor: Option<u8>) -> Expression {
-        let kind = if self.random.percent(70) {
-            self.stage.values[usize::from(slot)].kind()
-        } else {
-            Kind::random(self.random, self.stage.values.len())
-        };
-        self.expression_of(kind, floor)
-    }
-
-    fn guard(&mut self) -> Expression {
-        if self.minds(self.care.kinds) {
-            self.expression_of(Kind::Truth, None)
-        } else {
-            self.any_expression()
-        }
-    }
-
-    fn expression_of(&mut self, kind: Kind, floor: Option<u8>) -> Expression {
-        if !self.minds(self.care.kinds) {
-            return self.any_expression();
-        }
-        let views_minded = self.minds(self.care.views);
-        let (table, region) = (self.stage.table, self.region);
-        let allowed = |value| match value {
-            Value::WriteView(slot) if views_minded => {
-                table.lattice.at_or_below(table.owner(slot), region)
-            }
-            _ => true,
-        };
-        if self.random.percent(65) {
-            let found = self.reading(|value| value.kind() == kind && allowed(value), floor);
-            if let Some(expression) = found {
-                return expression;
-            }
-        }
-        let literal = Value::random_of(self.random, kind, self.stage.values.len());
-        if allowed(literal) {
-            Expression::literal(literal)
-        } else {
-            Expression::literal(Value::Integer(0))
-        }
-    }
-
-    /// Reads in a row that give such a value, through slots whose owners stand
-    /// at or above the floor.
-    fn reading(&mut self, wanted: impl Fn(Value) -> bool, floor: Option<u8>) -> Option<Expression> {
-        let (table, values) = (self.stage.table, &self.stage.values);
-        let high =
-            |slot| floor.is_none_or(|floor| table.lattice.at_or_below(floor, table.owner(slot)));
-        let ends = slots_where(values, |slot, value| wanted(value) && high(slot));
-        let mut slot = self.random.pick_any(&ends)?;
-        let mut reads = 1;
-        let go_on = self.random.pick(&[30, 30, 60, 100]);
-        while reads < self.most_reads && self.random.percent(go_on) {
-            let seen_from = slots_where(values, |from, value| {
-                value == Value::ReadView(slot) && high(from)
-            });
-            match self.random.pick_any(&seen_from) {
-                Some(from) => slot = from,
-                None => break,
-            }
-            reads += 1;
-        }
-        let literal = Value::ReadView(slot);
-        Some(Expression { reads, literal })
-    }
-
-    /// Any expression, whatever it gives.
-    fn any_expression(&mut self) -> Expression {
-        let literal = Value::random(self.random, self.stage.values.len());
-        let reads = match self.random.below(20) {
-            0..=9 => 0,
-            10..=18 => self.random.between(1, 3),
-            _ => self.random.between(1, self.most_reads),
-        };
-        Expression { reads, literal }
     }
 }
 

@@ -1,39 +1,10 @@
 //! Programme sheets: commands as trees, and their bytes.
 
+use crate::expressions::Expression;
 use crate::sheets::{Part, Sheet};
 use crate::values::Value;
 
-/// So many reads in a row of a literal.
-#[derive(Debug, Clone, Copy, PartialEq, Eq)]
-pub struct Expression {
-    pub reads: usize,
-    pub literal: Value,
-}
-
-impl Expression {
-    pub const MOST_READS: usize = 8;
-    pub const LITERAL: u8 = 0x10;
-    pub const READ: u8 = 0x11;
-
-    pub fn literal(literal: Value) -> Expression {
-        Expression { reads: 0, literal }
-    }
-
-    pub fn read_of(slot: u8) -> Expression {
-        Expression {
-            reads: 1,
-            literal: Value::ReadView(slot),
-        }
-    }
-
-    pub fn write_to(&self, sheet: &mut Sheet) {
-        sheet.push(Part::Expression, &vec![Expression::READ; self.reads]);
-        sheet.push(Part::Expression, &[Expression::LITERAL]);
-        sheet.push_value(self.literal);
-    }
-}
-
-#[derive(Debug, Clone)]
+#[derive(Debug, Clone, PartialEq, Eq)]
 pub enum Command {
     Skip,
     Assign {
@@ -133,7 +104,7 @@ impl Command {
     }
 }
 
-#[derive(Debug, Clone)]
+#[derive(Debug, Clone, PartialEq, Eq)]
 pub struct Block {
     pub region: u8,
     pub endorsed: bool,

@@ -1,6 +1,7 @@
 //! Damage to a good sheet, aimed at what its bytes say.
 
-use crate::code::{Block, Command, Expression};
+use crate::code::{Block, Command};
+use crate::expressions::{Expression, Operator};
 use crate::high_bytes::set_high_bytes;
 use crate::layout::Layout;
 use crate::random::Random;
@@ -97,6 +98,7 @@ fn change_part(random: &mut Random, sheet: &Sheet, bytes: &mut [u8]) {
 /// of place.
 fn telling(random: &mut Random, part: Part, old: u8) -> u8 {
     let near = old.wrapping_add(random.pick(&[1, 255]));
+    let operation = random.pick(&Operator::ALL).byte();
     match part {
         Part::Mask => old ^ (1 << random.below(8)),
         Part::Owner => random.pick(&[near, 31, 32, 255]),
@@ -119,7 +121,8 @@ fn telling(random: &mut Random, part: Part, old: u8) -> u8 {
             Expression::LITERAL - 1,
             Expression::LITERAL,
             Expression::READ,
-            Expression::READ + 1,
+            operation,
+            Operator::Equal.byte() + 1,
             Command::SKIP,
         ]),
     }
@@ -159,7 +162,14 @@ fn reshape_code(random: &mut Random, sheet: &Sheet, bytes: &mut Vec<u8>) {
             layout.set_length(bytes, block + 1, next + moved);
         }
         _ => {
-            let known = [Command::SKIP, Command::SEQUENCE, Expression::READ, 0];
+            let operation = random.pick(&Operator::ALL).byte();
+            let known = [
+                Command::SKIP,
+                Command::SEQUENCE,
+                Expression::READ,
+                operation,
+                0,
+            ];
             layout.set_length(bytes, block, length + 1);
             bytes.insert(start + place, random.pick(&known));
         }

@@ -157,7 +157,8 @@ fn without_high_bytes(sheet: &[u8], place: usize) -> Vec<u8> {
 #[cfg(test)]
 mod tests {
     use super::*;
-    use crate::code::{programme_sheet, Block, Command, Expression};
+    use crate::code::{programme_sheet, Block, Command};
+    use crate::expressions::Expression;
     use crate::sheets::{plain_store, Store};
 
     const PLACE: usize = 1;

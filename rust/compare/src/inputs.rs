@@ -91,11 +91,19 @@ impl Display for End {
     }
 }
 
-/// A standard input.
+/// A standard input, and the run that it was made of.
 #[derive(Debug, Clone)]
 pub struct Input {
     pub end: End,
     pub bytes: Vec<u8>,
+    pub run: Run,
+}
+
+impl Input {
+    /// The run that the program is asked for, where the input ends with it.
+    pub fn asked(&self) -> Option<&Run> {
+        (self.end == End::Right).then_some(&self.run)
+    }
 }
 
 impl Input {
@@ -109,7 +117,7 @@ impl Input {
         bytes.extend(&run.programme);
         let length = end.length(random, store, bytes.len());
         bytes.resize_with(length, || random.byte());
-        Input { end, bytes }
+        Input { end, bytes, run }
     }
 }
 

@@ -43,7 +43,7 @@ impl Integers {
                 true => &mut self.kept,
                 false => &mut self.written,
             };
-            if let Some(integer) = Value::integer_in(after) {
+            if let Some(Value::Integer(integer)) = Value::in_bytes(after) {
                 counts.count(integer);
             }
         }

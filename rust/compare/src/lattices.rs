@@ -64,6 +64,11 @@ impl Lattice {
         }
     }
 
+    /// The lattice of a table that is good.
+    pub fn of_good_table(masks: Vec<u32>) -> Lattice {
+        Lattice { masks }
+    }
+
     pub fn masks(&self) -> &[u32] {
         &self.masks
     }

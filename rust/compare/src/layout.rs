@@ -39,6 +39,16 @@ impl Layout {
         two_bytes(sheet, self.length_place(block))
     }
 
+    pub fn region(&self, sheet: &[u8], block: usize) -> u8 {
+        sheet[self.region_place(block)]
+    }
+
+    /// The block's code, if there is such a block.
+    pub fn code_of<'a>(&self, sheet: &'a [u8], block: usize) -> Option<&'a [u8]> {
+        let is_there = block < self.blocks;
+        is_there.then(|| &sheet[self.start(sheet, block)..][..self.length(sheet, block)])
+    }
+
     /// Where the block's code starts.
     pub fn start(&self, sheet: &[u8], block: usize) -> usize {
         let before = (0..block).map(|earlier| self.length(sheet, earlier));

@@ -1,7 +1,8 @@
-//! Programmes at the limits of document 01 and one past them.
+//! Programmes at the limits of documents 01 and 02 and one past them.
 
 use crate::author::{Author, Care};
-use crate::code::{programme_sheet, sheet_of_codes, Block, Command, Expression};
+use crate::code::{programme_sheet, sheet_of_codes, Block, Command};
+use crate::expressions::{Expression, Operator};
 use crate::random::Random;
 use crate::sheets::{Part, Sheet, Store};
 use crate::values::Value;
@@ -10,11 +11,11 @@ use crate::values::Value;
 pub fn programme_at_limit(random: &mut Random, store: &Store) -> Sheet {
     let past = usize::from(random.one_in(2));
     let mut author = Author::new(random, store, Care::FULL);
-    let blocks = match author.random().below(5) {
+    let blocks = match author.random().below(6) {
         0 => vec![nested(&mut author, Command::MOST_DEPTH + past)],
-        1 => vec![reading(&mut author, Expression::MOST_READS + past)],
-        2 => vec![counted(&mut author)],
-        3 => small_blocks(&mut author, Block::MOST + past),
+        1 | 2 => vec![deep(&mut author, Expression::MOST_DEPTH + past)],
+        3 => vec![counted(&mut author)],
+        4 => small_blocks(&mut author, Block::MOST + past),
         _ => filled(&mut author, Block::MOST_CODE + past),
     };
     programme_sheet(&blocks)
@@ -42,30 +43,30 @@ fn wrapped(random: &mut Random, inner: Command) -> Command {
     }
 }
 
-/// A block with this many reads in a row in one of its expressions.
-fn reading(author: &mut Author, reads: usize) -> Block {
+/// A block with an expression that is just so deep.
+fn deep(author: &mut Author, depth: usize) -> Block {
     let slots = author.table().slots();
     let region = author.any_region();
     let mut block = author.block_of_depth(region, false, 2);
     let random = author.random();
-    let long = Expression {
-        reads,
-        literal: Value::random(random, slots),
+    let deep = match random.one_in(8) {
+        true => Expression::full(random, depth),
+        false => Expression::of_depth(random, depth, slots),
     };
     let short = Expression::literal(Value::Truth(random.one_in(2)));
-    let with_long = match random.below(4) {
-        0 => Command::while_do(long, Command::Skip),
-        1 => Command::if_else(long, Command::Skip, Command::Skip),
+    let with_deep = match random.below(4) {
+        0 => Command::while_do(deep, Command::Skip),
+        1 => Command::if_else(deep, Command::Skip, Command::Skip),
         2 => Command::Assign {
-            target: long,
+            target: deep,
             value: short,
         },
         _ => Command::Assign {
             target: short,
-            value: long,
+            value: deep,
         },
     };
-    block.command = Command::Sequence(vec![block.command, with_long]);
+    block.command = Command::Sequence(vec![block.command, with_deep]);
     block
 }
 
@@ -177,6 +178,8 @@ fn formless_code(random: &mut Random) -> Sheet {
         literal(&[], Value::Integer(7)),
         literal(&[], Value::Truth(true)),
         vec![Expression::READ],
+        vec![random.pick(&Operator::ALL).byte()],
+        literal(&[random.pick(&Operator::ALL).byte()], Value::Integer(1)),
         vec![Command::SKIP],
         vec![Command::ASSIGN],
         vec![Command::SEQUENCE, 2],
@@ -223,12 +226,12 @@ mod tests {
     }
 
     #[test]
-    fn depth_and_reads() {
+    fn depth_of_commands_and_expressions() {
         assert_limit(Command::MOST_DEPTH, 10, |author, depth| {
             vec![nested(author, depth)]
         });
-        assert_limit(Expression::MOST_READS, 10, |author, reads| {
-            vec![reading(author, reads)]
+        assert_limit(Expression::MOST_DEPTH, 10, |author, depth| {
+            vec![deep(author, depth)]
         });
     }
 

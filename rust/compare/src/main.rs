@@ -20,6 +20,8 @@ mod blockrun;
 mod calls;
 mod code;
 mod damage;
+mod decode;
+mod expressions;
 mod flaws;
 mod high_bytes;
 mod inputs;
@@ -28,6 +30,7 @@ mod lattices;
 mod layout;
 mod limits;
 mod lines;
+mod operations;
 mod play_pairs;
 mod play_prints;
 mod play_runs;
@@ -184,6 +187,7 @@ fn play_sheets(seed: u64, count: u64) -> Report {
             report.say(format!("{count} sheets of seed {seed}: no difference"));
             report.say_answers(&played.tallies());
             report.say_all(played.high_bytes.lines());
+            report.say_all(played.places.lines());
             report.complaints = played.complaints();
         }
         Err(difference) => report.differs(*difference),
@@ -205,6 +209,7 @@ fn play_runs(seed: u64, count: u64) -> Report {
             report.say(played.budgets);
             report.say_all(played.high_bytes.lines());
             report.say_all(played.integers.lines());
+            report.say_all(played.operations.lines());
             report.complaints = played.complaints();
         }
         Err(difference) => report.differs(*difference),

@@ -17,6 +17,7 @@
 mod counts;
 mod making;
 mod pair;
+mod tainted;
 
 use self::counts::{Played, Rules, Without};
 use self::pair::{Leak, Pair};

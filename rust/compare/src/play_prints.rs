@@ -8,6 +8,7 @@ use crate::blockrun::{Printed, Program};
 use crate::calls::hex;
 use crate::inputs::{End, Input};
 use crate::lines::{Lines, SlotLine};
+use crate::operations::Worked;
 use crate::random::Random;
 use crate::sheets::MOST_SLOTS;
 use crate::tally::{Checklist, Tally, NUMBERS};
@@ -28,6 +29,7 @@ pub struct Played {
     without_minus: Checklist,
     with_minus: Checklist,
     extremes: Checklist,
+    worked: Worked,
     /// Inputs that the program did not read to their end.
     unread: u64,
     /// Outputs that are not lines as document 01 has them, for both alike.
@@ -48,6 +50,7 @@ impl Played {
             without_minus: Checklist::new("integers without a minus, by digits", digits.clone()),
             with_minus: Checklist::new("integers with a minus, by digits", digits),
             extremes: Checklist::new("integers at an end", ENDS),
+            worked: Worked::default(),
             unread: 0,
             formless: 0,
         }
@@ -99,7 +102,8 @@ impl Played {
     pub fn lines(&self) -> Vec<String> {
         let lists = self.lists().map(Checklist::to_string);
         let unread = format!("inputs not read to their end: {}", self.unread);
-        lists.into_iter().chain([unread]).collect()
+        let worked = self.worked.lines();
+        lists.into_iter().chain(worked).chain([unread]).collect()
     }
 
     /// What is wrong with these counts, in words.
@@ -111,6 +115,7 @@ impl Played {
         let answers = self.answers.complaints().into_iter();
         answers
             .chain(lists.concat())
+            .chain(self.worked.complaints_of_steps_done())
             .chain(unread)
             .chain(formless)
             .collect()
@@ -189,13 +194,17 @@ fn play_by(
     let mut differing = 0;
     let mut shortest: Option<Difference> = None;
     for case in 0..count {
-        let Input { end, bytes: input } = Input::random(&mut Random::of_case(seed, case));
-        let (printed, second) = (print(&input)?, second_runner::print(&input));
+        let made = Input::random(&mut Random::of_case(seed, case));
+        let (printed, second) = (print(&made.bytes)?, second_runner::print(&made.bytes));
         if printed.bytes == second && printed.status.success() {
-            played.count(end, &printed);
+            played.count(made.end, &printed);
+            if let Some(run) = made.asked() {
+                played.worked.count(run, run.second().answer);
+            }
             continue;
         }
         differing += 1;
+        let input = made.bytes;
         let shorter = |other: &Difference| input.len() < other.input.len();
         if shortest.as_ref().is_none_or(shorter) {
             shortest = Some(Difference {

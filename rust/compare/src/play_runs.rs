@@ -8,6 +8,7 @@ use crate::damage::damaged;
 use crate::high_bytes::HighBytes;
 use crate::integers::Integers;
 use crate::limits::programme_at_limit;
+use crate::operations::Operations;
 use crate::play_sheets::{good_programme, large_programme, random_programme};
 use crate::random::Random;
 use crate::rule_numbers::{other_rule, WIDE};
@@ -75,8 +76,8 @@ impl Display for Budgets {
 }
 
 /// Counts of each rule, of rule numbers that there are not, of those among them
-/// that are wide, of budgets, of ill-formed values and of the integers that runs
-/// end with.
+/// that are wide, of budgets, of ill-formed values, of the integers that runs end
+/// with and of operations.
 #[derive(Debug, Clone)]
 pub struct Played {
     rules: Vec<(u32, Tally)>,
@@ -85,6 +86,7 @@ pub struct Played {
     pub budgets: Budgets,
     pub high_bytes: HighBytes,
     pub integers: Integers,
+    pub operations: Operations,
 }
 
 impl Played {
@@ -107,6 +109,7 @@ impl Played {
             budgets: Budgets::default(),
             high_bytes: HighBytes::default(),
             integers: Integers::default(),
+            operations: Operations::default(),
         }
     }
 
@@ -119,6 +122,7 @@ impl Played {
             self.budgets.complaints(),
             self.high_bytes.complaints(),
             self.integers.complaints(),
+            self.operations.complaints(),
         ];
         answers.chain(others.concat()).collect()
     }
@@ -135,6 +139,7 @@ impl Played {
         tally.count(seen.answer.number);
         self.wide.count(rule);
         self.high_bytes.count(call, seen.answer);
+        self.operations.count(call, seen.answer);
         if let (0, Some(store)) = (seen.answer.number, call.store()) {
             self.integers.count(store, seen.output());
         }

@@ -7,6 +7,7 @@ use crate::damage::damaged;
 use crate::high_bytes::HighBytes;
 use crate::lattices::MOST_PRINCIPALS;
 use crate::limits::{formless_programme, programme_at_limit};
+use crate::operations::Places;
 use crate::random::Random;
 use crate::sheets::{
     flawed_store_sheet, flawed_table_sheet, store_sheet_at_limit, Sheet, Store, Table, MOST_SLOTS,
@@ -20,6 +21,7 @@ pub struct Played {
     table: Tally,
     programme: Tally,
     pub high_bytes: HighBytes,
+    pub places: Places,
 }
 
 impl Played {
@@ -32,6 +34,7 @@ impl Played {
             table: tally("check_table", &[0, 1, 2, 3, 4]),
             programme: tally("check_programme", &[0, 6, 7, 8, 9, 10]),
             high_bytes: HighBytes::default(),
+            places: Places::default(),
         }
     }
 
@@ -42,7 +45,8 @@ impl Played {
     /// What is wrong with these counts, in words.
     pub fn complaints(&self) -> Vec<String> {
         let tallies = self.tallies().map(Tally::complaints).concat();
-        [tallies, self.high_bytes.complaints()].concat()
+        let others = [self.high_bytes.complaints(), self.places.complaints()];
+        [tallies, others.concat()].concat()
     }
 }
 
@@ -53,6 +57,7 @@ pub fn play(seed: u64, count: u64) -> Result<Played, Box<Difference>> {
         let call = random_call(&mut Random::of_case(seed, case));
         let answer = call.compare()?.answer;
         played.high_bytes.count(&call, answer);
+        played.places.count(&call, answer);
         match call {
             Call::CheckStore { .. } => played.store.count(answer.number),
             Call::CheckTable { .. } => played.table.count(answer.number),

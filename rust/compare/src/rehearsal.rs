@@ -1,6 +1,7 @@
 //! A rehearsal of a run, for the generators.
 
-use crate::code::{Command, Expression};
+use crate::code::Command;
+use crate::expressions::Expression;
 use crate::sheets::Table;
 use crate::values::Value;
 
@@ -16,72 +17,98 @@ impl Rehearsal<'_> {
     /// Endless loops are left after this many steps.
     const MOST_STEPS: u32 = 200;
 
-    /// The value of an expression and its label, unless a read meets
-    /// something else than a read view.
+    /// The value of an expression and its label, unless a read or an operation
+    /// meets a wrong kind.
     pub fn evaluate(&self, expression: &Expression) -> Option<(Value, u8)> {
         let lattice = &self.table.lattice;
-        let mut value = expression.literal;
-        let mut label = lattice.top();
-        for _ in 0..expression.reads {
-            let Value::ReadView(slot) = value else {
-                return None;
-            };
-            value = self.values[usize::from(slot)];
-            label = lattice.meet(label, self.table.owner(slot));
+        match expression {
+            Expression::Literal(value) => Some((*value, lattice.top())),
+            Expression::Read(view) => {
+                let (Value::ReadView(slot), label) = self.evaluate(view)? else {
+                    return None;
+                };
+                let label = lattice.meet(label, self.table.owner(slot));
+                Some((self.values[usize::from(slot)], label))
+            }
+            Expression::Operation(operator, operands) => {
+                let [left, right] = &**operands;
+                let (left, left_label) = self.evaluate(left)?;
+                let (right, right_label) = self.evaluate(right)?;
+                let label = lattice.meet(left_label, right_label);
+                Some((operator.apply(left, right)?, label))
+            }
         }
-        Some((value, label))
     }
 
     /// Plays a command as far as it goes.
     pub fn play(&mut self, command: &Command) {
         let mut steps_left = Self::MOST_STEPS;
-        let _ = self.command(command, &mut steps_left);
+        let _ = self.go(command, &mut steps_left, &mut ());
     }
 
-    fn command(&mut self, command: &Command, steps_left: &mut u32) -> Option<()> {
+    /// Plays a command if it takes no more steps than are left.
+    pub fn go(
+        &mut self,
+        command: &Command,
+        steps_left: &mut u32,
+        watch: &mut dyn Watch,
+    ) -> Option<()> {
         match command {
             Command::Skip => Some(()),
-            Command::Assign { target, value } => self.assign(target, value, steps_left),
+            Command::Assign { target, value } => {
+                *steps_left = steps_left.checked_sub(1)?;
+                let Value::WriteView(slot) = self.work(target, watch)? else {
+                    return None;
+                };
+                self.values[usize::from(slot)] = self.work(value, watch)?;
+                Some(())
+            }
             Command::Sequence(commands) => commands
                 .iter()
-                .try_for_each(|inner| self.command(inner, steps_left)),
+                .try_for_each(|inner| self.go(inner, steps_left, watch)),
             Command::If {
                 guard,
                 then_part,
                 else_part,
-            } => match self.guard(guard, steps_left)? {
-                true => self.command(then_part, steps_left),
-                false => self.command(else_part, steps_left),
+            } => match self.guard(guard, steps_left, watch)? {
+                true => self.go(then_part, steps_left, watch),
+                false => self.go(else_part, steps_left, watch),
             },
             Command::While { guard, body } => {
-                while self.guard(guard, steps_left)? {
-                    self.command(body, steps_left)?;
+                while self.guard(guard, steps_left, watch)? {
+                    self.go(body, steps_left, watch)?;
                 }
                 Some(())
             }
         }
     }
 
-    fn assign(
-        &mut self,
-        target: &Expression,
-        value: &Expression,
+    fn guard(
+        &self,
+        guard: &Expression,
         steps_left: &mut u32,
-    ) -> Option<()> {
+        watch: &mut dyn Watch,
+    ) -> Option<bool> {
         *steps_left = steps_left.checked_sub(1)?;
-        let (Value::WriteView(slot), _) = self.evaluate(target)? else {
-            return None;
-        };
-        let (value, _) = self.evaluate(value)?;
-        self.values[usize::from(slot)] = value;
-        Some(())
-    }
-
-    fn guard(&self, guard: &Expression, steps_left: &mut u32) -> Option<bool> {
-        *steps_left = steps_left.checked_sub(1)?;
-        match self.evaluate(guard)? {
-            (Value::Truth(holds), _) => Some(holds),
+        match self.work(guard, watch)? {
+            Value::Truth(holds) => Some(holds),
             _ => None,
         }
     }
+
+    fn work(&self, expression: &Expression, watch: &mut dyn Watch) -> Option<Value> {
+        watch.sees(self, expression);
+        self.evaluate(expression).map(|(value, _)| value)
+    }
+}
+
+/// Looks on while a command is played.
+pub trait Watch {
+    /// This expression is worked out next, whole.
+    fn sees(&mut self, stage: &Rehearsal, expression: &Expression);
+}
+
+/// Nobody looks on.
+impl Watch for () {
+    fn sees(&mut self, _: &Rehearsal, _: &Expression) {}
 }

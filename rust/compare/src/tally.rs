@@ -98,6 +98,11 @@ impl Checklist {
         found.for_each(|(_, count)| *count += 1);
     }
 
+    /// Counts the one at this place of the list so many times.
+    pub fn add(&mut self, place: usize, times: u64) {
+        self.counts[place].1 += times;
+    }
+
     /// What never came up, in words.
     pub fn complaints(&self) -> Vec<String> {
         let missing = self.counts.iter().filter(|(_, count)| *count == 0);
@@ -131,6 +136,8 @@ mod tests {
         list.count(256);
         assert!(list.complaints().is_empty());
         assert_eq!(list.to_string(), "sizes (3)  0: 2, 256: 1");
+        list.add(1, 4);
+        assert_eq!(list.to_string(), "sizes (7)  0: 2, 256: 5");
     }
 
     #[test]

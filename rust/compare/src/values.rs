@@ -105,11 +105,17 @@ impl Value {
         bytes
     }
 
-    /// The integer that these bytes of an output are, if they are one.
-    pub fn integer_in(bytes: &[u8]) -> Option<Integer> {
+    /// The value that these bytes are, if they are good.
+    pub fn in_bytes(bytes: &[u8]) -> Option<Value> {
         let (kind, payload) = bytes.split_first()?;
-        let integer = Integer::from_le_bytes(payload.try_into().ok()?);
-        (*kind == Kind::Integer as u8).then_some(integer)
+        let number = Integer::from_le_bytes(payload.try_into().ok()?);
+        let slot = u8::try_from(number).ok();
+        match Kind::ALL.get(usize::from(*kind))? {
+            Kind::Integer => Some(Value::Integer(number)),
+            Kind::Truth => (number >> 1 == 0).then_some(Value::Truth(number == 1)),
+            Kind::ReadView => slot.map(Value::ReadView),
+            Kind::WriteView => slot.map(Value::WriteView),
+        }
     }
 }
 
@@ -121,7 +127,7 @@ pub fn size_of_integer(integer: Integer) -> usize {
 }
 
 /// Small ones, the ends, and any of every size.
-fn random_integer(random: &mut Random) -> Integer {
+pub fn random_integer(random: &mut Random) -> Integer {
     match random.below(8) {
         0..=2 => random.below(21) as Integer - 10,
         3 | 4 => random.pick(&ENDS),
@@ -174,11 +180,13 @@ mod tests {
     }
 
     #[test]
-    fn an_integer_is_read_as_it_was_written() {
-        for integer in ENDS {
-            let bytes = Value::Integer(integer).bytes();
-            assert_eq!(Value::integer_in(&bytes), Some(integer));
+    fn a_value_is_read_as_it_was_written() {
+        let mut random = Random::of_case(25, 0);
+        let values = (0..1_000).map(|_| Value::random(&mut random, 256));
+        for value in values.chain(ENDS.map(Value::Integer)) {
+            assert_eq!(Value::in_bytes(&value.bytes()), Some(value));
         }
-        assert_eq!(Value::integer_in(&[1; Value::WIDTH]), None);
+        assert_eq!(Value::in_bytes(&[1; Value::WIDTH]), None);
+        assert_eq!(Value::in_bytes(&[Kind::UNKNOWN; Value::WIDTH]), None);
     }
 }

@@ -2,6 +2,7 @@
 
 use crate::answer::{Answer, BlockRefusal, Refusal};
 use crate::bytes::take;
+use crate::operation::Operator;
 use crate::sheet::{ProgrammeSheet, Region};
 use crate::value::{Kind, Value};
 
@@ -9,13 +10,23 @@ use crate::value::{Kind, Value};
 pub(crate) enum Expression {
     Literal(Value),
     Read(Box<Expression>),
+    Operation(Box<Operation>),
 }
 
 impl Expression {
-    /// "At most 8 bytes 11 stand in a row in one expression."
-    const MOST_READS: u32 = 8;
+    /// "Expressions may now nest 8 deep, reads and operations together."
+    /// (document 02, N5)
+    const MOST_DEPTH: u32 = 8;
     const LITERAL: u8 = 0x10;
     const READ: u8 = 0x11;
+}
+
+/// "Each is followed by two expressions." (document 02, N5)
+#[derive(Debug, Clone)]
+pub(crate) struct Operation {
+    pub operator: Operator,
+    pub left: Expression,
+    pub right: Expression,
 }
 
 /// A command and where its first byte stands in its block.
@@ -153,21 +164,43 @@ impl<'a> CodeReader<'a> {
     }
 
     fn whole_expression(&mut self) -> Result<Expression, BlockRefusal> {
-        self.expression(Expression::MOST_READS)
+        self.expression(Expression::MOST_DEPTH)
     }
 
-    /// Reads one expression, in which `reads_left` more bytes 11 may stand.
-    fn expression(&mut self, reads_left: u32) -> Result<Expression, BlockRefusal> {
+    /// Reads one expression, in which reads and operations may be `depth_left`
+    /// deep; a literal is of no depth. "the ninth is refused by 10", unless its
+    /// byte is unknown.
+    fn expression(&mut self, depth_left: u32) -> Result<Expression, BlockRefusal> {
         let at = self.at;
-        match self.byte()? {
+        let byte = self.byte()?;
+        let inner_depth = depth_left.checked_sub(1).ok_or(too_deep(at));
+        match byte {
             Expression::LITERAL => self.literal().map(Expression::Literal),
             Expression::READ => {
-                let inner_reads = reads_left.checked_sub(1).ok_or(too_deep(at))?;
-                let view = self.expression(inner_reads)?;
+                let view = self.expression(inner_depth?)?;
                 Ok(Expression::Read(Box::new(view)))
             }
-            _ => Err(ill_formed(at)),
+            _ => {
+                let operator = Operator::from_byte(byte).ok_or(ill_formed(at))?;
+                self.operation(operator, inner_depth?)
+            }
         }
+    }
+
+    /// Reads the two expressions that follow an operation's byte.
+    fn operation(
+        &mut self,
+        operator: Operator,
+        inner_depth: u32,
+    ) -> Result<Expression, BlockRefusal> {
+        let left = self.expression(inner_depth)?;
+        let right = self.expression(inner_depth)?;
+        let operation = Operation {
+            operator,
+            left,
+            right,
+        };
+        Ok(Expression::Operation(Box::new(operation)))
     }
 
     /// "a bad literal at its kind byte, and the kind is judged before the

@@ -6,13 +6,14 @@
 //! trees, and running a programme is recursion over them.
 //!
 //! No input makes it panic: sheets are judged before they are used, and the
-//! recursion is bounded by the depth of commands and the reads in a row.
+//! recursion is bounded by the depth of commands and of expressions.
 
 #![forbid(unsafe_code)]
 
 mod answer;
 mod bytes;
 mod code;
+mod operation;
 mod order;
 mod print;
 mod rule;

@@ -2,7 +2,7 @@
 //! Refusals 13 to 17.
 
 use crate::answer::{Answer, BlockRefusal, Refusal};
-use crate::code::{Block, Command, Expression, Form};
+use crate::code::{Block, Command, Expression, Form, Operation};
 use crate::order::Principal;
 use crate::rule::{Budget, Labels, RuleSet};
 use crate::sheet::{Region, Store};
@@ -163,24 +163,41 @@ impl Run {
     /// Works an expression "from its literal outwards": at each stage the
     /// value that turns up is judged by 15 before its kind is by 13.
     fn evaluate(&self, region: Region, expression: &Expression) -> Result<Labelled, Refusal> {
-        let table = &self.store.table;
         let given = match expression {
             Expression::Literal(value) => Labelled {
                 value: *value,
-                label: table.order.top(),
+                label: self.store.table.order.top(),
             },
-            Expression::Read(inner) => {
-                let view = self.evaluate(region, inner)?;
-                let Value::ReadView(slot) = view.value else {
-                    return Err(Refusal::WrongKind);
-                };
-                Labelled {
-                    value: self.store.value(slot),
-                    label: table.order.meet(view.label, table.owner(slot)),
-                }
-            }
+            Expression::Read(view) => self.read(region, view)?,
+            Expression::Operation(operation) => self.operate(region, operation)?,
         };
-        self.rule.judge_value(table, region, given.value)?;
+        self.rule
+            .judge_value(&self.store.table, region, given.value)?;
         Ok(given)
+    }
+
+    /// "a read needs a read view and gives that slot's present value"
+    fn read(&self, region: Region, view: &Expression) -> Result<Labelled, Refusal> {
+        let view = self.evaluate(region, view)?;
+        let Value::ReadView(slot) = view.value else {
+            return Err(Refusal::WrongKind);
+        };
+        let table = &self.store.table;
+        Ok(Labelled {
+            value: self.store.value(slot),
+            label: table.order.meet(view.label, table.owner(slot)),
+        })
+    }
+
+    /// "The label is the meet of both labels. The left one is evaluated first,
+    /// then the right; then kinds are judged, by 13." (document 02, N5)
+    fn operate(&self, region: Region, operation: &Operation) -> Result<Labelled, Refusal> {
+        let left = self.evaluate(region, &operation.left)?;
+        let right = self.evaluate(region, &operation.right)?;
+        let value = operation.operator.apply(left.value, right.value);
+        Ok(Labelled {
+            value: value.ok_or(Refusal::WrongKind)?,
+            label: self.store.table.order.meet(left.label, right.label),
+        })
     }
 }

@@ -31,7 +31,10 @@ fn altered_call(seed: u64) -> Call {
             0 => drop(sheet.remove(at)),
             1 => sheet.insert(at, random.next() as u8),
             2 => sheet[at] = sheet[at].wrapping_add(1),
-            3 => sheet[at] = [0x10, 0x11, 0x20, 0x21, 0x22, 0x24][random.below(6)],
+            3 => {
+                let known = [0x10, 0x11, 0x20, 0x21, 0x22, 0x24, random.operation()];
+                sheet[at] = known[random.below(known.len())];
+            }
             _ => sheet[at] = random.next() as u8,
         }
     }
@@ -163,6 +166,8 @@ fn formless_code(random: &mut Random) -> Bytes {
         vec![0x10],
         literal(truth(false)),
         vec![0x11],
+        vec![random.operation()],
+        join(&[&[random.operation()], &literal(integer(7))]),
         vec![0x20],
         vec![0x21],
         vec![0x22, 0x02],

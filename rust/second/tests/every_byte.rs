@@ -9,8 +9,9 @@ use sheets::*;
 
 /// "Every command is known by its first byte."
 const COMMANDS: [u8; 5] = [0x20, 0x21, 0x22, 0x23, 0x24];
-/// "An expression is 10 and a value [..], or 11 (read) and an expression."
-const EXPRESSIONS: [u8; 2] = [0x10, 0x11];
+/// "An expression is 10 and a value [..], or 11 (read) and an expression";
+/// "Expressions gain four forms" (document 02, N5).
+const EXPRESSIONS: [u8; 6] = [0x10, 0x11, 0x12, 0x13, 0x14, 0x15];
 
 /// The code as the first of two blocks, and as the second; the other one is a
 /// skip.
@@ -24,8 +25,20 @@ fn as_either_block(code: &[u8]) -> [Call; 2] {
 /// the block's length.
 #[track_caller]
 fn ill_formed(code: &[u8], offset: usize) {
+    refused(9, code, offset);
+}
+
+/// "nested too deep or a ninth 11, at that byte"; of reads and operations "the
+/// ninth is refused by 10 as before" (document 02, N5)
+#[track_caller]
+fn too_deep(code: &[u8], offset: usize) {
+    refused(10, code, offset);
+}
+
+#[track_caller]
+fn refused(number: u32, code: &[u8], offset: usize) {
     for (block, call) in (0..).zip(as_either_block(code)) {
-        call.refused(9, block, offset, 0);
+        call.refused(number, block, offset, 0);
     }
 }
 
@@ -46,18 +59,46 @@ fn a_command_is_known_by_its_first_byte() {
     }
 }
 
-/// As a target, a value, the guard of an if and of a while, and what is read.
+/// As a target, a value, the guard of an if and of a while, what is read, and
+/// what an operation is of.
 #[test]
 fn an_expression_is_known_by_its_first_byte() {
     let value = join(&[&[0x21], &literal(write_view(0))]);
-    let heads = [&[0x21], &value[..], &[0x23], &[0x24], &[0x24, 0x11]];
+    let mut heads = vec![vec![0x21], value, vec![0x23], vec![0x24], vec![0x24, 0x11]];
+    heads.extend(OPERATIONS.map(|byte| vec![0x24, byte]));
+    heads.extend(OPERATIONS.map(|byte| join(&[&[0x24, byte], &literal(integer(5))])));
     for head in heads {
         for byte in 0..=u8::MAX {
             let known = EXPRESSIONS.contains(&byte);
             let offset = head.len() + usize::from(known);
-            ill_formed(&join(&[head, &[byte]]), offset);
+            ill_formed(&join(&[&head, &[byte]]), offset);
         }
     }
+}
+
+/// "the ninth is refused by 10 as before", and "an unknown byte is 9 at any
+/// depth". After eight of one byte, in the left operand of each, and in the
+/// right one of the last.
+#[test]
+fn the_ninth_is_known_by_its_byte_too() {
+    let nine = literal(integer(9));
+    for outer in &EXPRESSIONS[1..] {
+        let left = join(&[&[0x24], &[*outer; 8]]);
+        let right = join(&[&left, &nine]);
+        let heads = [Some(left), (*outer != 0x11).then_some(right)];
+        for (head, byte) in heads.into_iter().flatten().flat_map(with_each_byte) {
+            let code = join(&[&head, &[byte]]);
+            match byte {
+                0x10 => ill_formed(&code, head.len() + 1),
+                0x11..=0x15 => too_deep(&code, head.len()),
+                _ => ill_formed(&code, head.len()),
+            }
+        }
+    }
+}
+
+fn with_each_byte(head: Bytes) -> impl Iterator<Item = (Bytes, u8)> {
+    (0..=u8::MAX).map(move |byte| (head.clone(), byte))
 }
 
 /// "store sizes present (1), in limits (2), total length (1)": sizes past their

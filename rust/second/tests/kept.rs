@@ -375,6 +375,8 @@ impl Author {
         let value = match self.random.below(16) {
             0 => reads(2, from),
             1..=4 => slot(from),
+            5 => equal(slot(from), literal(self.value(spares))),
+            6 => sum(slot(from), literal(integer(1))),
             _ => literal(self.value(spares)),
         };
         assign(slot(through as i64), value)

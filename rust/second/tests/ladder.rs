@@ -224,23 +224,46 @@ impl Author {
                 sequence(&[first, self.command(depth - 1)])
             }
             1 | 2 if depth > 0 => {
-                let guard = slot(self.slot());
+                let guard = self.guard();
                 let then_part = self.command(depth - 1);
                 if_else(guard, then_part, self.command(depth - 1))
             }
             3 if depth > 0 => {
-                let guard = slot(self.slot());
+                let guard = self.guard();
                 while_do(guard, self.command(depth - 1))
             }
             _ => {
                 let target = self.slot();
-                let value = if self.random.one_in(2) {
-                    slot(self.slot())
-                } else {
-                    literal(self.value())
+                let value = match self.random.below(8) {
+                    0..=3 => slot(self.slot()),
+                    4 => self.operation(),
+                    _ => literal(self.value()),
                 };
                 set(target, value)
             }
+        }
+    }
+
+    /// What a slot holds, or whether two hold the same.
+    fn guard(&mut self) -> Bytes {
+        let one = slot(self.slot());
+        match self.random.below(4) {
+            0 => equal(one, slot(self.slot())),
+            _ => one,
+        }
+    }
+
+    /// Of two slots, or of a slot and a literal: low if either is.
+    fn operation(&mut self) -> Bytes {
+        let byte = match self.random.one_in(3) {
+            true => self.random.operation(),
+            false => EQUAL,
+        };
+        let (one, held) = (slot(self.slot()), literal(self.value()));
+        match self.random.below(3) {
+            0 => operation(byte, held, one),
+            1 => operation(byte, one, held),
+            _ => operation(byte, one, slot(self.slot())),
         }
     }
 }

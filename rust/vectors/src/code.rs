@@ -25,7 +25,9 @@ const UNKNOWN: &str = "An unknown byte or bad count is placed at that byte";
 /// Next to the known ones, the known ones with their highest bit set, and bytes
 /// that start an expression.
 fn unknown_commands() -> Vec<Case> {
-    let bytes = [0x00, 0x10, 0x11, 0x1F, 0x25, 0x7F, 0xA0, 0xA4, 0xFF];
+    let bytes = [
+        0x00, 0x10, 0x11, 0x15, 0x16, 0x1F, 0x25, 0x7F, 0xA0, 0xA4, 0xFF,
+    ];
     let alone = bytes.map(|byte| {
         let name = format!("code {byte:02X}");
         ill_formed(name, UNKNOWN, vec![byte], 0)
@@ -39,7 +41,7 @@ fn unknown_commands() -> Vec<Case> {
 
 /// The same with bytes that start a command.
 fn unknown_expressions() -> Vec<Case> {
-    let bytes = [0x00, 0x0F, 0x12, 0x20, 0x24, 0x90, 0x91, 0xFF];
+    let bytes = [0x00, 0x0F, 0x16, 0x20, 0x24, 0x90, 0x91, 0xFF];
     let at = |byte, place, code, offset| {
         let name = format!("code {byte:02X} {place}");
         ill_formed(name, UNKNOWN, code, offset)
@@ -97,7 +99,7 @@ fn early_ends() -> Vec<Case> {
 fn cut_blocks() -> Vec<Case> {
     let whole = sequence(&[
         if_else(slot(0), set_integer(0, 3), skip()),
-        while_do(literal(truth(false)), set(1, slot(1))),
+        while_do(literal(truth(false)), set(1, equal(slot(1), slot(0)))),
         skip(),
     ]);
     let cut = |length: usize| {

@@ -192,7 +192,7 @@ fn after_eight_reads() -> Vec<Case> {
     let early = "code that ends early (offset: the block's length)";
     let literal = "a bad literal at its kind byte";
     vec![
-        refused("code 12 after 8 reads", unknown, then(&[0x12]), 9, 9),
+        refused("code 16 after 8 reads", unknown, then(&[0x16]), 9, 9),
         refused("kind 4 after 8 reads", literal, then(&[0x10, 4]), 9, 10),
         refused("no byte after 8 reads", early, then(&[]), 9, 9),
     ]

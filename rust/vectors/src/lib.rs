@@ -17,6 +17,7 @@ mod code;
 mod depth;
 mod descents;
 mod labels;
+mod operations;
 mod payloads;
 mod programme_sheets;
 mod steps;

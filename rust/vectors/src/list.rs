@@ -2,8 +2,8 @@
 
 use crate::case::Case;
 use crate::{
-    arguments, branches, code, depth, descents, labels, paper, payloads, programme_sheets, steps,
-    store_sheets, views, worked_examples,
+    arguments, branches, code, depth, descents, labels, operations, paper, payloads,
+    programme_sheets, steps, store_sheets, views, worked_examples,
 };
 
 pub fn cases() -> Vec<Case> {
@@ -20,6 +20,7 @@ pub fn cases() -> Vec<Case> {
         branches::cases(),
         descents::cases(),
         payloads::cases(),
+        operations::cases(),
         paper::cases(),
     ]
     .into_iter()

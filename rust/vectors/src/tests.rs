@@ -81,6 +81,28 @@ fn every_number_comes_up() {
     assert_eq!(numbers(), all);
 }
 
+/// The byte at which a programme sheet's code is refused.
+fn refused_byte(case: &Case) -> u8 {
+    let Answer { block, offset, .. } = case.expected.answer;
+    let (sheet, block) = (&case.call.programme, block as usize);
+    let blocks = usize::from(sheet[0]);
+    let lengths = sheet[3 + blocks..].chunks(2).take(block);
+    let before = lengths.map(|length| usize::from(u16::from_le_bytes([length[0], length[1]])));
+    sheet[3 + 3 * blocks + before.sum::<usize>() + offset as usize]
+}
+
+/// "Expressions may now nest 8 deep, reads and operations together; the ninth is
+/// refused by 10 as before": by each byte that can be the ninth.
+#[test]
+fn every_byte_is_a_ninth_somewhere() {
+    let cases = list::cases();
+    let too_deep = cases
+        .iter()
+        .filter(|case| case.expected.answer.number == 10);
+    let bytes: BTreeSet<u8> = too_deep.map(refused_byte).collect();
+    assert!((0x11..=0x15).all(|byte| bytes.contains(&byte)), "{bytes:?}");
+}
+
 #[test]
 fn names_are_single_lines_and_stand_once() {
     let mut names = BTreeSet::new();

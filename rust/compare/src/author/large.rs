@@ -2,8 +2,9 @@
 //! and in the steps that they take.
 
 use super::{slots_where, Author};
-use crate::code::{Block, Command, Expression};
-use crate::values::Value;
+use crate::code::{Block, Command};
+use crate::expressions::{Expression, Operator};
+use crate::values::{Integer, Value};
 
 impl Author<'_> {
     /// Blocks with one that is deep, or one that takes many steps, or as much
@@ -99,31 +100,15 @@ impl Author<'_> {
         Command::Sequence(vec![start, Command::while_do(guard, body)])
     }
 
-    /// A block that counts in binary until its digits overflow: each digit
-    /// more makes twice as many rounds.
+    /// A block that counts.
     fn counting_block(&mut self) -> Block {
-        const MOST_DIGITS: usize = 9;
         let top = self.start_block();
-        let mut slots = self.alike(top);
-        let Some(going) = slots.pop() else {
-            return self.block_around(Command::Skip);
+        let slots = self.alike(top);
+        let command = match self.random.one_in(2) {
+            true => adding_up(&slots, self.random.between(0, MOST_ROUNDS)),
+            false => digits(slots),
         };
-        slots.truncate(MOST_DIGITS);
-        let mut commands = vec![set_truth(going, true)];
-        commands.extend(slots.iter().map(|digit| set_truth(*digit, false)));
-        // From the last digit to the first: one that is set is cleared, and
-        // the next one is counted up.
-        let overflow = set_truth(going, false);
-        let count_up = slots.iter().rev().fold(overflow, |carry, digit| {
-            let cleared = Command::Sequence(vec![set_truth(*digit, false), carry]);
-            Command::if_else(
-                Expression::read_of(*digit),
-                cleared,
-                set_truth(*digit, true),
-            )
-        });
-        commands.push(Command::while_do(Expression::read_of(going), count_up));
-        let command = self.played(Command::all(commands));
+        let command = self.played(command);
         self.block_around(command)
     }
 
@@ -167,6 +152,58 @@ impl Author<'_> {
         let commands = (0..count).map(|_| command(self)).collect();
         self.block_around(Command::Sequence(commands))
     }
+}
+
+/// The most rounds of a counter, so that a run of it ends in the steps that it is
+/// given.
+const MOST_ROUNDS: usize = 900;
+
+/// A counter goes up by one until it comes to this, and another slot, if there is
+/// one, adds up what it was.
+fn adding_up(slots: &[u8], rounds: usize) -> Command {
+    let [counter, others @ ..] = slots else {
+        return Command::Skip;
+    };
+    let number = |integer| Expression::literal(Value::Integer(integer));
+    let added = |slot, what| {
+        let sum = Expression::operation(Operator::Sum, Expression::read_of(slot), what);
+        Command::set(slot, sum)
+    };
+    let sums = &others[..others.len().min(1)];
+    let zero = |slot: &u8| Command::set(*slot, number(0));
+    let mut commands: Vec<Command> = sums.iter().chain([counter]).map(zero).collect();
+    let add = |slot: &u8| added(*slot, Expression::read_of(*counter));
+    let mut body: Vec<Command> = sums.iter().map(add).collect();
+    body.push(added(*counter, number(1)));
+    let (count, limit) = (Expression::read_of(*counter), number(rounds as Integer));
+    let guard = Expression::operation(Operator::LessThan, count, limit);
+    commands.push(Command::while_do(guard, Command::all(body)));
+    Command::all(commands)
+}
+
+/// Counts in binary until its digits overflow: each digit more makes twice as
+/// many rounds.
+fn digits(mut slots: Vec<u8>) -> Command {
+    const MOST_DIGITS: usize = 9;
+    let Some(going) = slots.pop() else {
+        return Command::Skip;
+    };
+    slots.truncate(MOST_DIGITS);
+    let mut commands = vec![set_truth(going, true)];
+    commands.extend(slots.iter().map(|digit| set_truth(*digit, false)));
+    // From the last digit to the first: one that is set is cleared, and the
+    // next one is counted up.
+    let overflow = set_truth(going, false);
+    let count_up = slots.iter().rev().fold(overflow, |carry, digit| {
+        let cleared = Command::Sequence(vec![set_truth(*digit, false), carry]);
+        Command::if_else(
+            Expression::read_of(*digit),
+            cleared,
+            set_truth(*digit, true),
+        )
+    });
+    commands.push(Command::while_do(Expression::read_of(going), count_up));
+    Command::all(commands)
 }
 
 fn set_truth(slot: u8, holds: bool) -> Command {

@@ -1,8 +1,9 @@
 //! Loops that end, and a few that don't.
 
 use super::{slots_where, Author};
-use crate::code::{Command, Expression};
-use crate::values::Value;
+use crate::code::Command;
+use crate::expressions::{Expression, Operator};
+use crate::values::{random_integer, Integer, Value};
 
 /// What a loop's slots hold while it goes on and at its end, and how many
 /// reads its guard needs for a truth value.
@@ -15,7 +16,8 @@ struct Marks {
 impl Author<'_> {
     pub(super) fn looping(&mut self, depth: usize, branch: u8) -> Command {
         match self.random.below(12) {
-            0..=7 => self.row_loop(depth, branch),
+            0..=4 => self.row_loop(depth, branch),
+            5..=7 => self.count_loop(depth, branch),
             8..=10 => self.idle_loop(depth, branch),
             _ => {
                 let guard = self.guard();
@@ -37,10 +39,7 @@ impl Author<'_> {
             .map(|slot| Command::set(*slot, Expression::literal(self.random.pick(&marks.going))))
             .collect();
         commands.iter().for_each(|set| self.stage.play(set));
-        let guard = Expression {
-            reads: marks.reads,
-            literal: Value::ReadView(*first),
-        };
+        let guard = Expression::reads(marks.reads, Value::ReadView(*first));
         let inner = self.inside(branch, &guard);
         let mut body = vec![self.tried(depth, inner)];
         for pair in row.windows(2) {
@@ -94,10 +93,36 @@ impl Author<'_> {
         }
     }
 
+    /// A slot counts up or down until a comparison fails: at a limit, or past an
+    /// end of the integers, where it comes in at the other.
+    fn count_loop(&mut self, depth: usize, branch: u8) -> Command {
+        let Some(slot) = self.writable(branch) else {
+            return self.idle_loop(depth, branch);
+        };
+        let by = self.random.pick(&[1, 1, 3, 1 << 32]);
+        let way = by * self.random.between(1, 4) as Integer;
+        let near = random_integer(self.random) / 2;
+        let here = || Expression::read_of(slot);
+        let below = |limit| Expression::operation(Operator::LessThan, here(), integer(limit));
+        let above = |limit| Expression::operation(Operator::LessThan, integer(limit), here());
+        let (start, guard, operator) = match self.random.below(4) {
+            0 => (near, below(near + way), Operator::Sum),
+            1 => (near, above(near - way), Operator::Difference),
+            2 => (Integer::MAX - way, above(0), Operator::Sum),
+            _ => (Integer::MIN + way, below(0), Operator::Difference),
+        };
+        let set = self.played(Command::set(slot, integer(start)));
+        let inner = self.inside(branch, &guard);
+        let step = Expression::operation(operator, here(), integer(by));
+        let body = vec![self.tried(depth, inner), Command::set(slot, step)];
+        let counting = Command::while_do(guard, Command::all(body));
+        Command::all(vec![set, self.played(counting)])
+    }
+
     /// A loop whose guard is false from the start.
     fn idle_loop(&mut self, depth: usize, branch: u8) -> Command {
         let low = Value::Truth(false);
-        let guard = self.reading(|value| value == low, None);
+        let guard = self.reading(|value| value == low, None, self.most_depth);
         self.loop_over(guard.unwrap_or(Expression::literal(low)), depth, branch)
     }
 
@@ -106,4 +131,8 @@ impl Author<'_> {
         let body = self.tried(depth, inner);
         self.played(Command::while_do(guard, body))
     }
+}
+
+fn integer(integer: Integer) -> Expression {
+    Expression::literal(Value::Integer(integer))
 }

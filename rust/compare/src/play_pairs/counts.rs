@@ -3,6 +3,8 @@
 
 use std::fmt::{self, Display, Formatter};
 
+use super::tainted::Tainted;
+
 /// The rule numbers of the two runs of a pair.
 #[derive(Debug, Clone, Copy, PartialEq, Eq)]
 pub(super) struct Rules(pub [u32; 2]);
@@ -54,6 +56,38 @@ pub struct Counts {
     pub written: u64,
     /// Finished, and a protected slot ends differently.
     pub leaked: u64,
+    /// Those among them in which an operation outside the adversary's reach has
+    /// a tainted operand.
+    pub leaked_with_operation: u64,
+    pub operands: Operands,
+}
+
+/// Finished pairs in which an operation outside the adversary's reach has just
+/// these operands tainted.
+#[derive(Debug, Clone, Copy, Default)]
+pub struct Operands {
+    left: u64,
+    right: u64,
+    both: u64,
+}
+
+impl Operands {
+    pub fn count(&mut self, tainted: Tainted) {
+        self.left += u64::from(tainted.left);
+        self.right += u64::from(tainted.right);
+        self.both += u64::from(tainted.both);
+    }
+
+    fn all_came_up(&self) -> bool {
+        ![self.left, self.right, self.both].contains(&0)
+    }
+}
+
+impl Display for Operands {
+    fn fmt(&self, out: &mut Formatter) -> fmt::Result {
+        let Operands { left, right, both } = self;
+        write!(out, "{left} left, {right} right, {both} both")
+    }
 }
 
 impl Display for Counts {
@@ -64,12 +98,15 @@ impl Display for Counts {
             by_high_bytes,
             written,
             leaked,
+            leaked_with_operation,
+            operands,
         } = self;
         write!(
             out,
             "{finished} pairs finish; {written} of them write a protected slot, \
              {told_apart} end differently in some slot, {by_high_bytes} in one by its high \
-             bytes alone, {leaked} in a protected one"
+             bytes alone, {leaked} in a protected one, {leaked_with_operation} of these with a \
+             tainted operand; tainted operands: {operands}"
         )
     }
 }
@@ -149,7 +186,22 @@ impl Played {
             .map(|(words, _)| format!("{words}: no pair ends differently where protected"));
         let unseen = (self.shown == 0).then(|| "no stores differ where protected".to_string());
         let answers = idle.chain(blind).chain(needless).chain(unseen);
-        answers.chain(self.complaints_of_high_bytes()).collect()
+        answers
+            .chain(self.complaints_of_high_bytes())
+            .chain(self.complaints_of_operations())
+            .collect()
+    }
+
+    fn complaints_of_operations(&self) -> Vec<String> {
+        let untainted = self
+            .rules()
+            .filter(|(_, counts)| !counts.operands.all_came_up())
+            .map(|(rules, _)| format!("{rules}: not every operand of an operation is tainted"));
+        let blind = self
+            .rules()
+            .filter(|(rules, counts)| !rules.isolate() && counts.leaked_with_operation == 0)
+            .map(|(rules, _)| format!("{rules}: no operation where a protected slot differs"));
+        untainted.chain(blind).collect()
     }
 
     fn complaints_of_high_bytes(&self) -> Vec<String> {
@@ -175,6 +227,12 @@ mod tests {
             by_high_bytes: 1,
             written: 1,
             leaked: 1,
+            leaked_with_operation: 1,
+            operands: Operands {
+                left: 1,
+                right: 1,
+                both: 1,
+            },
         };
         let mut played = Played {
             pairs: 1,
@@ -193,6 +251,10 @@ mod tests {
             .iter_mut()
             .for_each(|counts| counts.by_high_bytes = 0);
         let more = 1 + Rules::ALL.len();
+        assert_eq!(played.complaints().len(), 1 + Without::ALL.len() + more);
+        played.rules[3].operands.right = 0;
+        played.rules[2].leaked_with_operation = 0;
+        let more = more + 2;
         assert_eq!(played.complaints().len(), 1 + Without::ALL.len() + more);
     }
 }

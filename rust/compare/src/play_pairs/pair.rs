@@ -51,10 +51,13 @@ impl Pair {
         counts.told_apart += u64::from(ends[0].output() != ends[1].output());
         counts.by_high_bytes += u64::from(self.told_apart_by_high_bytes(&ends));
         counts.written += u64::from(self.wrote_protected(&ends));
+        let tainted = self.tainted(0, ends[0].answer.steps) | self.tainted(1, ends[1].answer.steps);
+        counts.operands.count(tainted);
         let Some(slot) = self.leak(&ends) else {
             return Ok(None);
         };
         counts.leaked += 1;
+        counts.leaked_with_operation += u64::from(tainted.any());
         let [one, other] = calls;
         let [one_end, other_end] = ends;
         Ok(Some(Leak {

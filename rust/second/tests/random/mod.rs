@@ -44,6 +44,11 @@ impl Random {
         }
     }
 
+    /// The byte of some operation.
+    pub fn operation(&mut self) -> u8 {
+        OPERATIONS[self.below(OPERATIONS.len())]
+    }
+
     pub fn bytes(&mut self, most: usize) -> Bytes {
         let length = self.below(most + 1);
         (0..length).map(|_| self.next() as u8).collect()
@@ -82,13 +87,31 @@ impl Maker {
 
     /// Some expression, often one that suits a guard or a target.
     fn expression(&mut self, suited: Bytes) -> Bytes {
-        match self.random.below(5) {
+        match self.random.below(6) {
             0 => literal(self.value()),
             1 if self.slots > 0 => {
                 let slot = self.random.below(self.slots) as i64;
                 reads(1 + self.random.below(3), slot)
             }
+            2 => self.operation(2),
             _ => literal(suited),
+        }
+    }
+
+    /// An operation, with up to so many around an operand of its own.
+    fn operation(&mut self, depth: usize) -> Bytes {
+        let byte = self.random.operation();
+        let left = self.operand(depth);
+        operation(byte, left, self.operand(depth))
+    }
+
+    /// Mostly an integer, as most operations need it.
+    fn operand(&mut self, depth: usize) -> Bytes {
+        match self.random.below(8) {
+            0 | 1 if depth > 0 => self.operation(depth - 1),
+            2 => literal(self.value()),
+            3 | 4 if self.slots > 0 => slot(self.random.below(self.slots) as i64),
+            _ => literal(integer(self.random.integer())),
         }
     }
 

@@ -1,158 +1,37 @@
 use borrow.Author.Needs.{needs}
-use mathlib.Core.Path.{refl}
-use mathlib.Core.Logic.{inl, inr}
-use native.Mathlib.Omega.{arith}
-use borrow.Author.Tests.{not-true, not-false}
-use Rattle.programme.specs.Syntax.{Expr}
-use Rattle.calculus.specs.Calculus.{Setting, Store, eval}
-use Rattle.runner.specs.Answers.{gotBy}
-use Rattle.runner.specs.Contracts.{grounds, Behind, operandsOf, IsExpr}
-use Rattle.runner.proofs.Admission.{owner-in}
-use Rattle.runner.proofs.Rows.{view-held}
-use Rattle.runner.proofs.Chain.{Ready, ready-all, ready-barred, ready-done, ready-kind, ready-next}
+use Rattle.runner.proofs.Starting.{first-inside, some-only, only-read}
 use Rattle.runner.proofs.expressions.eval.Statement.{statement}
 use Rattle.runner.proofs.expressions.eval.Tie as tie
 
-abbrev Inv-loop : tie.InvT-loop
-Inv-loop operands payloads held masks terms o kind₀ payload₀ label₀ left₀ kind payload label left =
-    (w : Setting) (s : Store) (e : Expr) → Behind (grounds terms masks held) w s → IsExpr (operandsOf operands payloads) o e
-    → Ready w s kind payload label left (eval w s e)
+mul-head : tie.Need-mul-head
+mul-head c = search needs
 
-abbrev μ-loop : tie.MeasureT-loop
-μ-loop operands payloads held masks terms o kind₀ payload₀ label₀ left₀ kind payload label left = left
+element-copy-out-head : tie.Need-element-copy-out-head
+element-copy-out-head c = first-inside (c .pre .0) (c .pre .1)
 
-mul-head : tie.Need-mul-head Inv-loop μ-loop
-mul-head c = omega (arith, c .pre .1 .is .inside)
+array-read-if1 : tie.Need-array-read-if1
+array-read-if1 c = search needs
 
-element-copy-out-head : tie.Need-element-copy-out-head Inv-loop μ-loop
-element-copy-out-head c = c .pre .1 .is .inside
+read-through-requires : tie.Need-read-through-requires
+read-through-requires c κs = let p = c .before .before .pre in (p .0, some-only (c .if1 .taken) (p .0) (p .1))
 
-array-read-wide : tie.Need-array-read-wide Inv-loop μ-loop
-array-read-wide c = search needs
+returns : tie.Need-returns
+returns c = only-read (c .before .if1 .taken) _ (c .read-through .ensures)
 
-wide-requires : tie.Need-wide-requires Inv-loop μ-loop
-wide-requires c κs = search needs
+eval-operations-requires : tie.Need-eval-operations-requires
+eval-operations-requires c κs = search needs
 
-mul-payload : tie.Need-mul-payload Inv-loop μ-loop
-mul-payload c = omega (arith, c .before .before .pre .1 .is .inside)
-
-element-copy-out-payload : tie.Need-element-copy-out-payload Inv-loop μ-loop
-element-copy-out-payload c = c .before .before .pre .1 .is .inside
-
-array-read-left : tie.Need-array-read-left Inv-loop μ-loop
-array-read-left c = search needs
-
-loop-holds : tie.Need-loop-holds Inv-loop μ-loop
-loop-holds c w s e v x = ready-all w s x _ _ _ _ (c .before .wide .ensures) refl refl (v .serves .top)
-
--- what the caller's setting and expression make of the value that has turned up
-abbrev entry : tie.At-loop Inv-loop μ-loop → tie.Start Inv-loop μ-loop
-entry c = c .before .before .before .before
-
-ready : (c : tie.At-loop Inv-loop μ-loop)
-    → let p = entry c .pre in
-    Ready (p .0 .setting) (p .0 .store) (c .loop .kind) (c .loop .payload) (c .loop .label) (c .loop .left)
-    (eval (p .0 .setting) (p .0 .store) (p .1 .expr))
-ready c = let p = entry c .pre in c .loop .inv (p .0 .setting) (p .0 .store) (p .1 .expr) (p .0 .behind) (p .1 .is)
-
-admitted-requires : tie.Need-admitted-requires Inv-loop μ-loop
-admitted-requires c κs = (entry c .pre .0, λ k. view-held (ready c .held) (inr k))
-
-refused-value-requires : tie.Need-refused-value-requires Inv-loop μ-loop
-refused-value-requires c κs = search needs
-
-returns : tie.Need-returns Inv-loop μ-loop
-returns c w s e v x =
-    let b = c .before .before in
-    rw (c .refused-value .ensures)
-    (ready-barred w s (b .before .loop .inv w s e v x) _ (b .admitted .ensures w s v) (not-true _ (c .before .if1 .taken)))
-
-returns-2 : tie.Need-returns-2 Inv-loop μ-loop
-unfolding gotBy
-returns-2 c w s e v x =
-    let b = c .before .before in
-    ready-done w s (b .before .loop .inv w s e v x) _ (b .admitted .ensures w s v) (not-false _ (c .before .if1 .left)) (c .if2 .taken)
-
-cast-if3 : tie.Need-cast-if3 Inv-loop μ-loop
-cast-if3 c = search needs
-
-refused-value-requires-2 : tie.Need-refused-value-requires-2 Inv-loop μ-loop
-refused-value-requires-2 c κs = search needs
-
-returns-3 : tie.Need-returns-3 Inv-loop μ-loop
-returns-3 c w s e v x =
-    let a = c .before .before .before in
-    let b = a .before in
-    rw (c .refused-value2 .ensures)
-    (ready-kind w s (b .before .loop .inv w s e v x) _ (b .admitted .ensures w s v) (not-false _ (a .if1 .left)) (c .before .before .if2 .left)
-    (c .before .if3 .taken))
-
-viewed-requires : tie.Need-viewed-requires Inv-loop μ-loop
-viewed-requires c κs = search needs
-
-row-of-requires : tie.Need-row-of-requires Inv-loop μ-loop
-row-of-requires c κs =
-    let d = c .before in
-    omega (arith, c .viewed .ensures 0, view-held (ready (d .before .before .before .before) .held) (inl (d .if3 .left)))
-
-array-read-owner : tie.Need-array-read-owner Inv-loop μ-loop
-array-read-owner c = search needs
-
-mul-mask : tie.Need-mul-mask Inv-loop μ-loop
-mul-mask c = omega (arith, owner-in _ _ (entry (c .before .before .before .before .before .before) .pre .0) (c .row-of .ensures))
-
-element-copy-out-mask : tie.Need-element-copy-out-mask Inv-loop μ-loop
-element-copy-out-mask c = owner-in _ _ (entry (c .before .before .before .before .before .before) .pre .0) (c .row-of .ensures)
-
-array-read-kind : tie.Need-array-read-kind Inv-loop μ-loop
-array-read-kind c = search needs
-
-array-read-payload : tie.Need-array-read-payload Inv-loop μ-loop
-array-read-payload c = search needs
-
-sub-left : tie.Need-sub-left Inv-loop μ-loop
-sub-left c = omega (arith, c .before .before .before .before .if2 .left)
-
-loop-less : tie.Need-loop-less Inv-loop μ-loop
-loop-less c = omega (arith, c .before .before .before .before .if2 .left)
-
-loop-again : tie.Need-loop-again Inv-loop μ-loop
-loop-again c w s e v x =
-    let n = c .before .before in
-    let d = n .before in
-    let a = d .before .before in
-    let b = a .before in
-    ready-next w s (b .before .loop .inv w s e v x) _ (b .admitted .ensures w s v) _ (n .viewed .ensures 0) v _ (c .before .row-of .ensures)
-    (not-false _ (a .if1 .left)) (d .before .if2 .left) (d .if3 .left)
+returns-2 : tie.Need-returns-2
+returns-2 c = search needs
 
 pub eval-spec : {M : Type 1} → statement M
 eval-spec =
     tie.close
     (tie.spec
-    Inv-loop
-    μ-loop
     mul-head
     element-copy-out-head
-    array-read-wide
-    wide-requires
-    mul-payload
-    element-copy-out-payload
-    array-read-left
-    loop-holds
-    admitted-requires
-    refused-value-requires
+    array-read-if1
+    read-through-requires
     returns
-    returns-2
-    cast-if3
-    refused-value-requires-2
-    returns-3
-    viewed-requires
-    row-of-requires
-    array-read-owner
-    mul-mask
-    element-copy-out-mask
-    array-read-kind
-    array-read-payload
-    sub-left
-    loop-less
-    loop-again)
+    eval-operations-requires
+    returns-2)

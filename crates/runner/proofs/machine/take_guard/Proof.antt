@@ -67,11 +67,11 @@ mul-labels-2 c = let b = c .before .before .before .before in omega (arith, guar
 element-write-labels : tie.Need-element-write-labels
 element-write-labels c = let b = c .before .before .before .before in omega (arith, guard-level (start b .pre) (read b))
 
-add-t36 : tie.Need-add-t36
-add-t36 c = let b = c .before .before .before .before .before in omega (arith, start b .pre .left)
-
 add-t37 : tie.Need-add-t37
-add-t37 c = let b = c .before .before .before .before .before in omega (arith, run-inside (start b .pre .can .goes .runs))
+add-t37 c = let b = c .before .before .before .before .before in omega (arith, start b .pre .left)
+
+add-t38 : tie.Need-add-t38
+add-t38 c = let b = c .before .before .before .before .before in omega (arith, run-inside (start b .pre .can .goes .runs))
 
 returns-2 : tie.Need-returns-2
 unfolding controlBy next
@@ -81,22 +81,28 @@ returns-2 c =
     let b = j .before in
     guard-on (start b .pre) (read b) (j .judge .result) (j .judge .ensures) true _ (e .if1 .left) (c .if2 .taken) refl
 
+mul-again : tie.Need-mul-again
+mul-again c = let b = c .before .before .before .before .before in omega (arith, run-inside (start b .pre .can .goes .runs))
+
+element-copy-out-again : tie.Need-element-copy-out-again
+element-copy-out-again c = let b = c .before .before .before .before .before in omega (arith, run-inside (start b .pre .can .goes .runs))
+
 array-read-wide16-3 : tie.Need-array-read-wide16-3
 array-read-wide16-3 c = search needs
 
 wide16-requires-3 : tie.Need-wide16-requires-3
 wide16-requires-3 c κs = search needs
 
-add-t31 : tie.Need-add-t31
-add-t31 c = let b = c .before .before .before .before .before .before in omega (arith, start b .pre .left)
+add-t32 : tie.Need-add-t32
+add-t32 c = let b = c .before .before .before .before .before .before .before in omega (arith, start b .pre .left)
 
 returns-3 : tie.Need-returns-3
 unfolding controlBy next
 returns-3 c =
-    let e = c .before .before .before .before in
+    let e = c .before .before .before .before .before in
     let j = e .before in
     let b = j .before in
-    guard-on (start b .pre) (read b) (j .judge .result) (j .judge .ensures) false _ (e .if1 .left) (c .before .if2 .left) (c .wide163 .ensures)
+    guard-on (start b .pre) (read b) (j .judge .result) (j .judge .ensures) false _ (e .if1 .left) (c .before .before .if2 .left) (c .wide163 .ensures)
 
 pub take-guard-spec : {M : Type 1} → statement M
 take-guard-spec =
@@ -115,10 +121,12 @@ take-guard-spec =
     element-copy-out-labels
     mul-labels-2
     element-write-labels
-    add-t36
     add-t37
+    add-t38
     returns-2
+    mul-again
+    element-copy-out-again
     array-read-wide16-3
     wide16-requires-3
-    add-t31
+    add-t32
     returns-3)
