@@ -5,6 +5,7 @@ use muntyzhap::sheet::{MOST_BLOCKS, MOST_CODE, MOST_SLOTS};
 use muntyzhap::{BuildError, Value, MOST_BUDGET};
 
 use crate::code::{filled, filled_widely, forever};
+use crate::operations::long_step;
 use crate::sheets::{full_store, programme, store_of_one};
 
 /// What a time is divided by.
@@ -23,12 +24,17 @@ pub struct Workload {
     /// The budget of the second runner, and of the run that both must agree
     /// on: less where its steps may take long.
     pub second_budget: u32,
+    /// In how many rounds it is timed: fewer where a run takes long.
+    pub rounds: u32,
     /// The bytes of the output.
     pub output: usize,
 }
 
+/// How often a case is timed.
+pub const ROUNDS: u32 = 25;
+
 impl Workload {
-    fn new(
+    pub fn new(
         name: &'static str,
         values: &[Value],
         blocks: &[Command],
@@ -40,6 +46,7 @@ impl Workload {
             programme: programme(blocks)?,
             budget: MOST_BUDGET,
             second_budget: MOST_BUDGET,
+            rounds: ROUNDS,
             output: values.len() * Value::BYTES,
         })
     }
@@ -88,8 +95,8 @@ fn nested_ifs() -> Result<Workload, BuildError> {
 
 /// Slots from `first` on: views to be read in a row, and what the last read
 /// gives.
-fn chain(first: u8, last: Value) -> Vec<Value> {
-    let mut values: Vec<Value> = (1..MOST_READS as u8)
+pub fn chain(first: u8, last: Value) -> Vec<Value> {
+    let mut values: Vec<Value> = (1..MOST_NESTED as u8)
         .map(|next| Value::ReadView(first + next))
         .collect();
     values.push(last);
@@ -100,7 +107,7 @@ fn chains_of_reads() -> Result<Workload, BuildError> {
     let mut values = chain(0, Value::Truth(true));
     let slot = values.len() as u8;
     values.push(Value::Integer(0));
-    let all = reads(MOST_READS, 0)?;
+    let all = reads(MOST_NESTED, 0)?;
     let code = while_command(all.clone(), assign(slot, all))?;
     Workload::new("c  8 reads in a row", &values, &[code])
 }
@@ -164,6 +171,7 @@ pub fn of_long_steps() -> Result<Vec<Workload>, BuildError> {
         chains_on_both_sides()?,
         guards_that_jump()?,
         many_slots()?,
+        long_step()?,
     ])
 }
 
@@ -177,17 +185,19 @@ pub fn full_sheets() -> Result<Workload, BuildError> {
         programme: programme(&vec![block; MOST_BLOCKS])?,
         budget: 0,
         second_budget: 0,
+        rounds: ROUNDS,
         output: MOST_SLOTS * Value::BYTES,
     })
 }
 
-/// The step that evaluates most: 8 reads for the target and 8 for the value.
+/// Of the steps without operations the one that reads most: 8 reads for the
+/// target and 8 for the value.
 fn chains_on_both_sides() -> Result<Workload, BuildError> {
-    let mut values = chain(0, Value::WriteView(2 * MOST_READS as u8));
+    let mut values = chain(0, Value::WriteView(2 * MOST_NESTED as u8));
     let second = values.len() as u8;
     values.extend(chain(second, Value::Integer(5)));
     values.push(Value::Integer(0));
-    let each = assignment(reads(MOST_READS, 0)?, reads(MOST_READS, second)?);
+    let each = assignment(reads(MOST_NESTED, 0)?, reads(MOST_NESTED, second)?);
     let body = forever(sequence(&vec![each; 64])?)?;
     Workload::new("h  8 reads, target and value", &values, &[body])
 }

@@ -3,7 +3,7 @@
 use std::error::Error;
 use std::fmt::{self, Display, Formatter};
 
-use crate::code::{FEWEST_COMMANDS, MOST_COMMANDS, MOST_DEPTH, MOST_READS};
+use crate::code::{FEWEST_COMMANDS, MOST_COMMANDS, MOST_DEPTH, MOST_NESTED};
 use crate::sheet::{Block, MOST_BLOCKS, MOST_CODE, MOST_PRINCIPALS, MOST_SLOTS};
 
 /// Why no sheet, or no part of one, was built. Each says the number that is
@@ -49,8 +49,8 @@ pub enum BuildError {
         /// How many slots the store has.
         slots: usize,
     },
-    /// An expression has too many reads in a row.
-    Reads(usize),
+    /// An expression's reads and operations nest too deep.
+    Nested(usize),
     /// A sequence has too few commands, or too many.
     Commands(usize),
     /// Commands nest too deep.
@@ -85,8 +85,8 @@ impl Display for BuildError {
                 write!(out, "slot {slot} is owned by principal {owner}, and there are only {principals} principals"),
             BuildError::View { slot, viewed, slots } =>
                 write!(out, "slot {slot} holds a view of slot {viewed}, and there are only {slots} slots"),
-            BuildError::Reads(count) =>
-                write!(out, "{count} reads in a row: an expression has at most {MOST_READS}"),
+            BuildError::Nested(depth) =>
+                write!(out, "reads and operations {depth} deep: they nest at most {MOST_NESTED} deep"),
             BuildError::Commands(count) =>
                 write!(out, "a sequence of {count}: it has {FEWEST_COMMANDS} to {MOST_COMMANDS} commands"),
             BuildError::Depth(depth) =>

@@ -2,17 +2,18 @@
 //! the library as it was meant, save for what only a store can tell: whether it
 //! has the slots that the views are of (9).
 
+mod expression;
+
 use std::fmt::{self, Display, Formatter};
 
 use crate::build_error::BuildError;
 use crate::value::Value;
 
-/// The first byte of a literal.
-pub const LITERAL: u8 = 0x10;
-/// The first byte of a read.
-pub const READ: u8 = 0x11;
-/// The most reads in a row in one expression.
-pub const MOST_READS: usize = 8;
+pub use expression::{
+    difference, equal, less_than, literal, read, read_through, reads, sum, Expression, DIFFERENCE,
+    EQUAL, LESS_THAN, LITERAL, MOST_NESTED, READ, SUM,
+};
+
 /// How deep commands nest, a block's own command being depth 1.
 pub const MOST_DEPTH: usize = 32;
 /// The fewest commands of a sequence.
@@ -68,65 +69,6 @@ impl Display for CommandKind {
     }
 }
 
-/// An expression, well-formed.
-#[derive(Debug, Clone, PartialEq, Eq)]
-pub struct Expression {
-    bytes: Vec<u8>,
-    /// How many reads stand in a row.
-    depth: usize,
-}
-
-impl Expression {
-    /// The bytes of its code.
-    pub fn bytes(&self) -> &[u8] {
-        &self.bytes
-    }
-
-    /// What is known by this first byte, around one expression.
-    fn around(first: u8, inner: Expression) -> Result<Expression, BuildError> {
-        let depth = 1 + inner.depth;
-        if depth > MOST_READS {
-            return Err(BuildError::Reads(depth));
-        }
-        let bytes = [vec![first], inner.bytes].concat();
-        Ok(Expression { bytes, depth })
-    }
-}
-
-/// An expression that gives this value.
-pub fn literal(value: Value) -> Expression {
-    let bytes = [[LITERAL].as_slice(), &value.to_bytes()].concat();
-    Expression { bytes, depth: 0 }
-}
-
-/// An expression that gives what the slot holds that another one views.
-///
-/// # Errors
-/// [`BuildError::Reads`] for more than [`MOST_READS`] in a row.
-pub fn read_through(view: Expression) -> Result<Expression, BuildError> {
-    Expression::around(READ, view)
-}
-
-/// So many reads in a row, the innermost one of `slot`; without any, a read view
-/// of it.
-///
-/// # Errors
-/// [`BuildError::Reads`] for more than [`MOST_READS`].
-pub fn reads(count: usize, slot: u8) -> Result<Expression, BuildError> {
-    if count > MOST_READS {
-        return Err(BuildError::Reads(count));
-    }
-    let view = literal(Value::ReadView(slot));
-    (0..count).try_fold(view, |view, _| read_through(view))
-}
-
-/// An expression that gives what `slot` holds.
-pub fn read(slot: u8) -> Expression {
-    let view = literal(Value::ReadView(slot));
-    let bytes = [vec![READ], view.bytes].concat();
-    Expression { bytes, depth: 1 }
-}
-
 /// A command, well-formed.
 #[derive(Debug, Clone, PartialEq, Eq)]
 pub struct Command {
@@ -143,7 +85,7 @@ impl Command {
 
     /// A command with no others inside.
     fn plain(kind: CommandKind, parts: &[Expression]) -> Command {
-        let parts = parts.iter().flat_map(|part| &part.bytes);
+        let parts = parts.iter().flat_map(Expression::bytes);
         let bytes = [kind.byte()].iter().chain(parts).copied().collect();
         Command { bytes, depth: 1 }
     }

@@ -183,8 +183,8 @@ impl Refusal {
                  early, or bytes left over"
             }
             Refusal::NestedTooDeep(_) => {
-                "the code is nested too deep: commands may nest 32 deep, and 8 reads may stand in \
-                 a row"
+                "the code is nested too deep: commands may nest 32 deep, and in an expression \
+                 reads and operations together 8 deep"
             }
             Refusal::Arguments => {
                 "the rule must be 0, 1, 2, 3 or 255, and the budget at most 1,000,000 steps"
@@ -198,7 +198,8 @@ impl Refusal {
         match self {
             Refusal::WrongKind(_) => {
                 "wrong kind: a guard must be a truth value, what is read through must be a read \
-                 view, and a target must be a write view"
+                 view, a target must be a write view, and what a sum, a difference or a less-than \
+                 is of must be two integers"
             }
             Refusal::NoAuthority(_) => {
                 "the region lacks authority: it does not stand at or above the owner of the slot \
@@ -243,7 +244,7 @@ impl Error for Refusal {}
 #[cfg(test)]
 mod tests {
     use super::*;
-    use crate::code::{MOST_DEPTH, MOST_READS};
+    use crate::code::{MOST_DEPTH, MOST_NESTED};
     use crate::sheet::{MOST_BLOCKS, MOST_CODE, MOST_PRINCIPALS, MOST_SLOTS};
     use crate::{Value, MOST_BUDGET};
 
@@ -306,7 +307,7 @@ mod tests {
             (7, MOST_BLOCKS),
             (7, MOST_CODE),
             (10, MOST_DEPTH),
-            (10, MOST_READS),
+            (10, MOST_NESTED),
             (11, MOST_BUDGET as usize),
             (12, Value::BYTES),
         ];

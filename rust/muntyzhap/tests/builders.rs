@@ -4,8 +4,7 @@
 mod parts;
 
 use muntyzhap::code::{
-    assign, if_command, read, read_through, reads, sequence, skip, while_command, Code, Command,
-    MOST_COMMANDS, MOST_DEPTH, MOST_READS,
+    assign, if_command, sequence, skip, while_command, Code, Command, MOST_COMMANDS, MOST_DEPTH,
 };
 use muntyzhap::sheet::{
     programme_sheet, store_sheet, Block, Slot, MOST_BLOCKS, MOST_CODE, MOST_PRINCIPALS, MOST_SLOTS,
@@ -14,21 +13,10 @@ use muntyzhap::{check_programme, check_store, BuildError, Refusal, Value};
 use parts::*;
 use sheets::chain;
 
-/// Judged for a store of two principals and two slots.
-fn check(command: Command) -> Result<(), Refusal> {
-    check_programme(&programme_by(LOW, command), 2, 2)
-}
-
 /// The number by which the library refuses bytes as code.
-fn refusal_of(bytes: Vec<u8>) -> Option<u32> {
-    let sheet = programme_of(&[block(LOW, Code::unjudged(bytes))]);
-    let judged = check_programme(&sheet, 2, 2);
+fn refusal_of(bytes: &[u8]) -> Option<u32> {
+    let judged = check_code(Code::unjudged(bytes));
     judged.err().map(|refusal| refusal.number())
-}
-
-#[track_caller]
-fn assert_told(error: BuildError, words: &str) {
-    assert_eq!(error.to_string(), words);
 }
 
 /// 81 would be principal 1 endorsed.
@@ -172,35 +160,15 @@ fn a_literal_s_view_is_judged_with_the_store() {
 }
 
 #[test]
-fn eight_reads_stand_in_a_row() {
-    let eight = built(reads(MOST_READS, 0));
-    assert_eq!(check(assign(0, eight.clone())), Ok(()));
-    assert_eq!(read_through(eight.clone()), Err(BuildError::Reads(9)));
-    for count in [MOST_READS + 1, MOST_READS + 12, usize::MAX] {
-        assert_eq!(reads(count, 0), Err(BuildError::Reads(count)));
-    }
-    let ninth = [&[0x21, 0x11], eight.bytes(), integer(1).bytes()].concat();
-    assert_eq!(refusal_of(ninth), Some(10));
-    let words = "9 reads in a row: an expression has at most 8";
-    assert_told(BuildError::Reads(9), words);
-}
-
-#[test]
-fn reads_are_made_one_by_one_alike() {
-    assert_eq!(reads(1, 7), Ok(read(7)));
-    assert_eq!(read_through(read(7)), reads(2, 7));
-}
-
-#[test]
 fn a_sequence_has_2_to_255_commands() {
     for count in [2, MOST_COMMANDS] {
-        assert_eq!(check(built(sequence(&vec![skip(); count]))), Ok(()));
+        assert_eq!(check_code(built(sequence(&vec![skip(); count]))), Ok(()));
     }
     for count in [0, 1, MOST_COMMANDS + 1, 1 << 16] {
         let made = sequence(&vec![skip(); count]);
         assert_eq!(made, Err(BuildError::Commands(count)));
     }
-    assert_eq!(refusal_of(vec![0x22, 1, 0x20]), Some(9));
+    assert_eq!(refusal_of(&[0x22, 1, 0x20]), Some(9));
     let words = "a sequence of 1: it has 2 to 255 commands";
     assert_told(BuildError::Commands(1), words);
 }
@@ -214,7 +182,7 @@ fn nested(depth: usize) -> Command {
 #[test]
 fn commands_nest_32_deep() {
     let deepest = nested(MOST_DEPTH);
-    assert_eq!(check(deepest.clone()), Ok(()));
+    assert_eq!(check_code(deepest.clone()), Ok(()));
     let error = BuildError::Depth(MOST_DEPTH + 1);
     let around = [
         while_command(truth(false), deepest.clone()),
@@ -226,7 +194,7 @@ fn commands_nest_32_deep() {
         assert_eq!(made, Err(error));
     }
     let too_deep = [&[0x24], truth(false).bytes(), deepest.bytes()].concat();
-    assert_eq!(refusal_of(too_deep), Some(10));
+    assert_eq!(refusal_of(&too_deep), Some(10));
     assert_told(error, "commands 33 deep: they nest at most 32 deep");
 }
 
@@ -234,7 +202,7 @@ fn commands_nest_32_deep() {
 #[test]
 fn deep_commands_stand_beside_each_other() {
     let parts = vec![nested(MOST_DEPTH - 1); 3];
-    assert_eq!(check(built(sequence(&parts))), Ok(()));
+    assert_eq!(check_code(built(sequence(&parts))), Ok(()));
 }
 
 #[test]

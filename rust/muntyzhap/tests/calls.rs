@@ -8,7 +8,7 @@ use muntyzhap::code::{
 use muntyzhap::sheet::{command_at, end_store, output_bytes, Block, MOST_BLOCKS};
 use muntyzhap::{
     check_programme, check_store, check_table, raw, run, Finished, Integer, Place, Refusal, Rule,
-    Stop, Value, MOST_BUDGET,
+    Value, MOST_BUDGET,
 };
 use parts::*;
 
@@ -48,11 +48,6 @@ fn ran(programme: &[u8], rule: Rule) -> Result<Finished, Refusal> {
     answer(&store(), programme, rule, MOST_BUDGET)
 }
 
-fn stop(block: usize, offset: usize, steps: u32) -> Stop {
-    let place = Place { block, offset };
-    Stop { place, steps }
-}
-
 #[test]
 fn the_written_sheets_are_those_of_the_repository_s_example() {
     let example = include_bytes!("../../../examples/two-blocks.bin");
@@ -73,25 +68,6 @@ fn a_finished_run_leaves_its_end_store() {
     let end = slots_of([42, 42]).to_vec();
     assert_eq!(end_store(&store(), &out), Some(end));
 }
-
-/// "Integers are signed 64-bit": the ends, those of 32 bits and their
-/// neighbours, and a ratio scaled by 10 to the 12th, of either sign.
-const TELLING: [Integer; 14] = [
-    Integer::MIN,
-    Integer::MIN + 1,
-    Integer::MAX - 1,
-    Integer::MAX,
-    i32::MIN as Integer - 1,
-    i32::MIN as Integer,
-    i32::MAX as Integer,
-    i32::MAX as Integer + 1,
-    u32::MAX as Integer,
-    u32::MAX as Integer + 1,
-    -1,
-    0,
-    815_042_637_915,
-    -815_042_637_915,
-];
 
 /// From the sheet to the output, and from a literal over two slots to it.
 #[test]

@@ -3,7 +3,9 @@
 
 use std::collections::BTreeMap;
 
-use muntyzhap::code::{CommandKind, LITERAL, MOST_DEPTH, MOST_READS, READ};
+use muntyzhap::code::{
+    CommandKind, DIFFERENCE, EQUAL, LESS_THAN, LITERAL, MOST_DEPTH, MOST_NESTED, READ, SUM,
+};
 use muntyzhap::sheet::{Block, MOST_BLOCKS, MOST_CODE, MOST_PRINCIPALS, MOST_SLOTS};
 use muntyzhap::{Place, Refusal, Rule, Stop, Value, MOST_BUDGET};
 
@@ -84,7 +86,7 @@ fn rules_and_limits() -> Vec<(&'static str, u64)> {
         ("MOST_BLOCKS", MOST_BLOCKS),
         ("MOST_CODE", MOST_CODE),
         ("MOST_DEPTH", MOST_DEPTH),
-        ("MOST_READS", MOST_READS),
+        ("MOST_NESTED", MOST_NESTED),
         ("MOST_BUDGET", MOST_BUDGET as usize),
         ("VALUE_BYTES", Value::BYTES),
         ("PAYLOAD_BYTES", Value::PAYLOAD_BYTES),
@@ -103,6 +105,10 @@ fn bytes() -> Vec<(&'static str, u64)> {
         ("ENDORSED", Block::ENDORSED),
         ("LITERAL", LITERAL),
         ("READ", READ),
+        ("SUM", SUM),
+        ("DIFFERENCE", DIFFERENCE),
+        ("LESS_THAN", LESS_THAN),
+        ("EQUAL", EQUAL),
         ("SKIP", CommandKind::Skip.byte()),
         ("ASSIGNMENT", CommandKind::Assignment.byte()),
         ("SEQUENCE", CommandKind::Sequence.byte()),

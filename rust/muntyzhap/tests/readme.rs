@@ -1,5 +1,6 @@
-//! What README shows of the wrapper and of order tables.
+//! What README shows of the wrapper, of order tables and of operations.
 
+use muntyzhap::code::{assign, difference, read};
 use muntyzhap::{check_store, Refusal};
 
 const README: &str = include_str!("../../../README.md");
@@ -51,4 +52,11 @@ fn two_customers_and_a_laboratory_need_a_principal_below() {
     assert_eq!(check_store(&bytes(first[0])), Err(Refusal::OrderTable));
     let mended = indented_after("It takes one more principal");
     assert_eq!(check_store(&bytes(mended[0])), Ok(()));
+}
+
+#[test]
+fn the_correction_in_bytes_is_that_of_the_builders() {
+    let shown = indented_after("`slot 1 := slot 0 - slot 2` is");
+    let age = difference(read(0), read(2)).expect("two deep");
+    assert_eq!(bytes(shown[0]), assign(1, age).bytes());
 }

@@ -5,7 +5,7 @@
 
 use muntyzhap::code::{literal, Code, Command, Expression};
 use muntyzhap::sheet::{programme_sheet, store_sheet, Block, Slot};
-use muntyzhap::{BuildError, Integer, Value};
+use muntyzhap::{check_programme, BuildError, Integer, Place, Refusal, Stop, Value};
 
 pub const LOW: u8 = 0;
 pub const HIGH: u8 = 1;
@@ -48,6 +48,41 @@ pub fn programme_of(blocks: &[Block]) -> Vec<u8> {
 pub fn programme_by(region: u8, command: Command) -> Vec<u8> {
     programme_of(&[block(region, command)])
 }
+
+/// What the library says of one block's code, for a store of two principals and
+/// two slots.
+pub fn check_code(code: impl Into<Code>) -> Result<(), Refusal> {
+    check_programme(&programme_of(&[block(LOW, code)]), 2, 2)
+}
+
+#[track_caller]
+pub fn assert_told(error: BuildError, words: &str) {
+    assert_eq!(error.to_string(), words);
+}
+
+pub fn stop(block: usize, offset: usize, steps: u32) -> Stop {
+    let place = Place { block, offset };
+    Stop { place, steps }
+}
+
+/// "Integers are signed 64-bit": the ends, those of 32 bits and their
+/// neighbours, and a ratio scaled by 10 to the 12th, of either sign.
+pub const TELLING: [Integer; 14] = [
+    Integer::MIN,
+    Integer::MIN + 1,
+    Integer::MAX - 1,
+    Integer::MAX,
+    i32::MIN as Integer - 1,
+    i32::MIN as Integer,
+    i32::MAX as Integer,
+    i32::MAX as Integer + 1,
+    u32::MAX as Integer,
+    u32::MAX as Integer + 1,
+    -1,
+    0,
+    815_042_637_915,
+    -815_042_637_915,
+];
 
 pub fn integer(integer: Integer) -> Expression {
     literal(Value::Integer(integer))

@@ -1,0 +1,135 @@
+//! What the times come to, in lines of text.
+
+use crate::cases::Cases;
+use crate::python::Python;
+use crate::timing::Case;
+use crate::workloads::Unit;
+
+/// The most that the proved runner's time may be of the second one's.
+const MOST_RATIO: f64 = 0.5;
+/// The most that a long part may cost where it isn't taken, as a quotient.
+const MOST_SKIPPING: f64 = 1.5;
+/// The most that a step with a body of skips may cost of one with a skip.
+const MOST_SKIPS: f64 = 3.0;
+/// The most that the proved runner's time may be of CPython's.
+const MOST_OF_PYTHON: f64 = 0.6;
+/// The longest that an expression may take, in microseconds.
+const MOST_EVALUATION: f64 = 1.0;
+
+const HEADING: &str = "time in ns                     rule       proved       second  ratio  for";
+
+/// The table, then how the times stand to the demands, and the worst.
+pub fn lines(cases: &Cases, python: Option<&Python>) -> Vec<String> {
+    let mut lines = vec![HEADING.to_string()];
+    lines.extend(cases.steps().chain(&cases.full).map(row));
+    lines.push(String::new());
+    lines.extend(of_both_runners(cases));
+    lines.extend(of_python(cases, python));
+    lines.extend(of_expressions(cases));
+    let step = worst(cases, Case::proved).map(time_of);
+    lines.extend(step.map(|step| format!("worst step found: {step}")));
+    let call = worst(cases, Case::call).map(call_of);
+    lines.extend(call.map(|call| format!("worst call found: {call}")));
+    lines
+}
+
+/// (a) to (g).
+fn of_both_runners(cases: &Cases) -> Vec<String> {
+    let mut lines = vec![];
+    lines.push("a to d: a step's time by the proved runner to the second's".to_string());
+    let speed = cases.speed.iter();
+    lines.extend(speed.map(|case| verdict(case, case.ratio(), MOST_RATIO)));
+    lines.push("e: a step's time with a long part not taken to that with a short one".to_string());
+    let skipping = cases.short.iter().zip(&cases.long);
+    lines.extend(skipping.map(|(short, long)| {
+        let value = long.proved() / short.proved();
+        verdict(long, value, MOST_SKIPPING)
+    }));
+    lines.push("f: the check of full-size sheets, by the proved runner".to_string());
+    let full = cases.full.iter();
+    lines.extend(full.map(|case| format!("   {}", time_of(case))));
+    lines.push("g: a step's time with many skips to that with one".to_string());
+    lines.extend(cases.skips.iter().map(|case| {
+        let one = cases.skip.iter().find(|one| one.rule == case.rule);
+        let value = one.map_or(f64::NAN, |one| case.proved() / one.proved());
+        verdict(case, value, MOST_SKIPS)
+    }));
+    lines
+}
+
+/// (i).
+fn of_python(cases: &Cases, python: Option<&Python>) -> Vec<String> {
+    let Some(python) = python else {
+        return vec!["i: not compared, as there is no python3 that answers".to_string()];
+    };
+    let (name, step) = (python.name(), python.step());
+    let heading = format!("i: a step's time by the proved runner to {name}'s, {step:.2} ns");
+    let counting = cases.counting.iter();
+    let verdicts = counting.map(|case| verdict(case, case.proved() / step, MOST_OF_PYTHON));
+    [heading].into_iter().chain(verdicts).collect()
+}
+
+/// (j).
+fn of_expressions(cases: &Cases) -> Vec<String> {
+    let heading = "j: one evaluation of an expression in µs, by the proved runner".to_string();
+    let expressions = cases.expressions.iter();
+    let verdicts = expressions.map(|case| verdict(case, case.proved() / 1e3, MOST_EVALUATION));
+    [heading].into_iter().chain(verdicts).collect()
+}
+
+fn row(case: &Case) -> String {
+    let unit = match case.workload.unit {
+        Unit::Step => "a step",
+        Unit::Run => "a run",
+    };
+    format!(
+        "{:<30} {:>4} {:>12.2} {:>12.2} {:>6.2}  {unit}{}",
+        case.workload.name,
+        case.rule,
+        case.proved(),
+        case.second(),
+        case.ratio(),
+        whole_runs(case)
+    )
+}
+
+/// The proved runner's time of a step or a run, and of what.
+fn time_of(case: &Case) -> String {
+    told(case, case.proved() / 1e3, "µs")
+}
+
+/// The proved runner's time of a whole call, and of what.
+fn call_of(case: &Case) -> String {
+    told(case, case.call() / 1e6, "ms")
+}
+
+fn told(case: &Case, time: f64, unit: &str) -> String {
+    let (name, rule) = (case.workload.name, case.rule);
+    format!("{time:.2} {unit} ({name}, rule {rule})")
+}
+
+/// The case of steps of which this time of the proved runner's is longest.
+fn worst<'a, 'b>(cases: &'a Cases<'b>, time: impl Fn(&Case<'b>) -> f64) -> Option<&'a Case<'b>> {
+    let cases = cases.steps();
+    cases.max_by(|one, other| time(one).total_cmp(&time(other)))
+}
+
+/// Whole runs a second, where a run is short.
+fn whole_runs(case: &Case) -> String {
+    const MANY: f64 = 1000.0;
+    let [proved, second] = case.runs_a_second();
+    if second < MANY {
+        return String::new();
+    }
+    format!(" (runs a second: {proved:.0} and {second:.0})")
+}
+
+fn verdict(case: &Case, value: f64, most: f64) -> String {
+    let standing = if value <= most {
+        "at or below"
+    } else {
+        "ABOVE"
+    };
+    let (name, rule) = (case.workload.name, case.rule);
+    format!("   {name}, rule {rule}: {value:.2}, {standing} {most}")
+}
