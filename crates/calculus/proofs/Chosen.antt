@@ -19,9 +19,9 @@ use Rattle.store.proofs.Bytes.{bytes-of}
 use Rattle.store.proofs.Result.{Post, Any, post-ok, post-all, post-at, post-map, post-require, post-bind}
 use Rattle.programme.specs.Syntax.{Expr, literal, read, Cmd, cmd, assign}
 use Rattle.programme.specs.Code.{readValue, exprSorted, exprByte, readLiteral, exprBy, readExpr, sorted, cmdByte, readAssign, bodyBy, readBody, readBlock}
-use Rattle.programme.specs.Sheet.{Block, kOf, headerOf, codeOf, startOf, headerGood, blockAt, blocksFrom, programmeSheet}
+use Rattle.programme.specs.Sheet.{Block, kOf, floorOf, headerOf, codeOf, startOf, headerGood, blockAt, blocksFrom, programmeSheet}
 use Rattle.programme.proofs.Placed.{IsBlock}
-use Rattle.calculus.specs.Rules.{RuleSet, capability, rulesOf, judgesViews, judgesRegion, labelsJudged, allAbove}
+use Rattle.calculus.specs.Rules.{RuleSet, capability, rulesOf, judgesViews, judgesRegion, labelsJudged, allAbove, labelsSuffice}
 use Rattle.calculus.specs.Calculus.{Setting, Store, State, contents, inRegion, admit, fetch, eval, authorised, reliable, permit, assignment, counted, written, performed, step, exec, execBody}
 use Rattle.calculus.specs.Blocks.{setting, runBlocks, start}
 use Rattle.calculus.specs.Run.{FinishedRun, runProgramme, runOpened, runUnder, run, answerOf, outputOf}
@@ -117,8 +117,8 @@ unfolding runProgramme runOpened runUnder run answerOf outputOf
     _>>=_ require refusedAs inTurn numberAt numberBytes entries filled wellFormed valueAt valueBytes opened assigned emptySlot slotBytes
     orderOf tablesOf openingOf valueWidthIn valueGood sizesAllowed slotChecked bodyChecked sheetChecked storeSheet slotsBytes
     readValue exprSorted exprByte readLiteral exprBy readExpr sorted cmdByte readAssign bodyBy readBody readBlock
-    headerOf startOf headerGood blockAt blocksFrom programmeSheet Post
-    rulesOf judgesViews judgesRegion labelsJudged allAbove inRegion admit fetch eval authorised reliable permit assignment
+    floorOf headerOf startOf headerGood blockAt blocksFrom programmeSheet Post
+    rulesOf judgesViews judgesRegion labelsJudged allAbove labelsSuffice inRegion admit fetch eval authorised reliable permit assignment
     counted written performed step exec execBody runBlocks start
 chosen-worked =
     record {

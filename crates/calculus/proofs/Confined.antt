@@ -1,9 +1,8 @@
 -- Confinement under full provenance: where the region or the branch is tainted, no protected slot is written. Assumes nothing.
 use Prim.Native.Nat.{ℕ}
 use mathlib.Core.Path.{_≡_}
-use mathlib.Core.Bool.{Bool, true, false}
-use Rattle.lattice.specs.Tests.{_or_}
-use Rattle.lattice.specs.Order.{Label, below}
+use mathlib.Core.Bool.{true}
+use Rattle.lattice.specs.Order.{Label}
 use Rattle.lattice.proofs.Tests.{and-l, and-r}
 use Rattle.store.specs.Sheet.{Tables, ownerOf}
 use Rattle.store.proofs.Result.{Post, Any, post-ok, post-map, post-require, post-bind}
@@ -14,7 +13,9 @@ use Rattle.programme.proofs.Literals.{literals-all}
 use Rattle.calculus.specs.Rules.{fullProvenance, labelsJudged, allAbove}
 use Rattle.calculus.specs.Calculus.{Setting, Store, Labelled, Write, State, eval, judge, reliable, permit, assignment, exec}
 use Rattle.calculus.proofs.Invariant.{exec-keeps}
-use Rattle.calculus.proofs.Taint.{Tainted, Principal, Agree, agree-tainted, tainted-down, tainted-left, eval-principal}
+use Rattle.calculus.specs.Isolation.{FloorOutOfReach}
+use Rattle.calculus.proofs.Taint.{Tainted, Principal, Agree, agree-tainted, tainted-left, eval-principal}
+use Rattle.calculus.proofs.Suffices.{tainted-owner}
 use Rattle.calculus.proofs.Authority.{reach-keeps}
 
 -- a block of header h under full provenance
@@ -34,24 +35,20 @@ Harmless w a x = Tainted w a (ownerOf w (x .slot))
 abbrev pub Like : Tables → Label → Store → State → Type 0
 Like w a u s = Agree w a (s .store) u
 
--- what the labels of an assignment satisfy where 16 does not refuse it in a block that is not endorsed
-pub record Reliable (w : Tables) (o target value branch : Label) : Type 0 where
-  pub by-target : below (w .order) o target ≡ true
-  pub by-value : below (w .order) o value ≡ true
-  pub by-branch : below (w .order) o branch ≡ true
+-- in a block that is not endorsed, or down to a floor out of reach, a tainted label of target, value or branch shuts protected slots out
+module _ (w : Tables) (a : Label) (o : Ordered w) (in-a : Principal w a) (h : Header) (clear : FloorOutOfReach w a h)
+    (budget : ℕ) (x y branch : Label) where
+  pub shut-by-target : Tainted w a x → Shut w a h budget x y branch
+  unfolding reliable labelsJudged allAbove
+  shut-by-target k i e = tainted-owner w a o in-a h clear _ _ x (λ z q. and-l _ _ q) e k
 
-module _ (w : Tables) (h : Header) where
-  pub reliable-at : h .endorsed ≡ false → (budget i : ℕ) (x y branch : Label)
-      → reliable (under w h budget) i (labelsJudged fullProvenance x y branch) ≡ true → Reliable w (ownerOf w i) x y branch
-  unfolding reliable labelsJudged allAbove _or_
-  reliable-at bare budget i x y branch e =
-      let all = rw bare at e in
-      let above : Label → Bool = λ l. below (w .order) (ownerOf w i) l in
-      record {
-        by-target = and-l (above x) _ all;
-        by-value = and-l (above y) _ (and-r (above x) _ all);
-        by-branch = and-l (above branch) _ (and-r (above y) _ (and-r (above x) _ all));
-      }
+  pub shut-by-value : Tainted w a y → Shut w a h budget x y branch
+  unfolding reliable labelsJudged allAbove
+  shut-by-value k i e = tainted-owner w a o in-a h clear _ _ y (λ z q. and-l _ _ (and-r _ _ q)) e k
+
+  pub shut-by-branch : Tainted w a branch → Shut w a h budget x y branch
+  unfolding reliable labelsJudged allAbove
+  shut-by-branch k i e = tainted-owner w a o in-a h clear _ _ branch (λ z q. and-l _ _ (and-r _ _ (and-r _ _ q))) e k
 
 module _ (w : Tables) (a : Label) (o : Ordered w) (in-a : Principal w a) (h : Header) where
   -- a guard's label is its expression's
@@ -78,12 +75,12 @@ module _ (w : Tables) (a : Label) (o : Ordered w) (in-a : Principal w a) (h : He
       post-bind _ _ _ _ _ p λ x l.
       post-require _ _ _ _ _ (λ _. post-bind _ _ _ _ _ q (λ y m. permit-shut budget branch x y (c _ _ l m))) (λ _. tt)
 
-  harmless : h .endorsed ≡ false → (budget : ℕ) (branch : Label) → Tainted w a branch → (s : Store) (t v : Expr)
+  harmless : FloorOutOfReach w a h → (budget : ℕ) (branch : Label) → Tainted w a branch → (s : Store) (t v : Expr)
       → Post (Harmless w a) Any (assignment (under w h budget) branch s t v)
-  harmless bare budget branch k s t v =
+  harmless clear budget branch k s t v =
       assignment-shut (Principal w) (Principal w) budget branch s t v
       (eval-principal (under w h budget) o s t) (eval-principal (under w h budget) o s v)
-      (λ x y _ _ i q. tainted-down w a o in-a _ _ (reliable-at w h bare budget i x y branch q .by-branch) k)
+      (λ x y _ _. shut-by-branch w a o in-a h clear budget x y branch k)
 
   -- in a region at or below the adversary, endorsed or not
   pub reach-confined : Tainted w a (h .region) → (budget : ℕ) (u : Store) (c : Cmd) (branch : Label) (s : State)
@@ -91,13 +88,13 @@ module _ (w : Tables) (a : Label) (o : Ordered w) (in-a : Principal w a) (h : He
   reach-confined l budget u c branch s m =
       post-map _ _ _ _ _ (reach-keeps (under w h budget) a o in-a l u c branch s m) (λ _ q. q) (λ _ _. tt)
 
-  -- under a tainted branch, not endorsed
-  pub branch-confined : h .endorsed ≡ false → (budget : ℕ) (u : Store) (c : Cmd) (branch : Label) → Tainted w a branch
+  -- under a tainted branch, not endorsed or down to a floor out of reach
+  pub branch-confined : FloorOutOfReach w a h → (budget : ℕ) (u : Store) (c : Cmd) (branch : Label) → Tainted w a branch
       → (s : State) → Like w a u s → Post (Like w a u) Any (exec (under w h budget) c branch s)
-  branch-confined bare budget u c branch l s m =
+  branch-confined clear budget u c branch l s m =
       post-map _ _ _ _ _
       (exec-keeps (under w h budget) (λ _. Unit {0}) (λ t. Agree w a t u) (Tainted w a)
       (λ branch s g k. post-map _ _ _ _ _ (judge-principal budget s g) (λ j p. tainted-left w a o in-a _ _ k p) (λ _ _. tt))
-      (λ branch s t v k _ _ m. post-map _ _ _ _ _ (harmless bare budget branch k s t v) (λ x p. agree-tainted w a x s u p m) (λ _ _. tt))
+      (λ branch s t v k _ _ m. post-map _ _ _ _ _ (harmless clear budget branch k s t v) (λ x p. agree-tainted w a x s u p m) (λ _ _. tt))
       c (literals-all _ (λ _. tt) c) branch l s m)
       (λ _ q. q) (λ _ _. tt)

@@ -17,15 +17,15 @@ use Rattle.programme.specs.Sheet.{kOf, headerAt, codeOf}
 use Rattle.calculus.specs.Rules.{judgesViews}
 use Rattle.calculus.specs.Calculus.{Store, contents}
 use Rattle.calculus.specs.Run.{FinishedRun}
-use Rattle.calculus.specs.Isolation.{withinReach, Replaced, unchanged, exchanged, Replacement, FullRule, byNumber, byDefault}
+use Rattle.calculus.specs.Isolation.{withinReach, Replaced, unchanged, exchanged, Replacement, FloorOutOfReach, FloorsOutOfReach, FullRule, byNumber, byDefault}
 use Rattle.calculus.specs.Kept.{Spares, BlocksSpare, ProtectedKept}
-use Rattle.calculus.specs.Deputy.{BareBlocksSpare, NoneEndorsedOutside, NoConfusedDeputy, EndAlike, Noninterference, CapabilityDeputySafety, DeputySafety, FullDeputySafety, NoninterferenceSuffices, IsolationSuffices}
+use Rattle.calculus.specs.Deputy.{NoConfusedDeputy, EndAlike, Noninterference, CapabilityDeputySafety, DeputySafety, DeputySafetyDownToFloors, FullDeputySafety, FullDeputySafetyDownToFloors, NoninterferenceSuffices, IsolationSufficesWhere, IsolationSuffices, IsolationSufficesDownToFloors}
 use Rattle.calculus.proofs.Rules.{views-judged}
 use Rattle.calculus.proofs.Invariant.{Slots}
-use Rattle.calculus.proofs.Isolation.{forth}
+use Rattle.calculus.proofs.Isolation.{forth, no-floors}
 use Rattle.calculus.proofs.Ended.{endCall, endGood, endStore, end-part, end-keeps, end-formed, end-kept}
 use Rattle.calculus.proofs.Capability.{Low, Safe, opening-safe, blocks-safe, capability-safety}
-use Rattle.calculus.proofs.Provenance.{provenance-safety}
+use Rattle.calculus.proofs.Provenance.{bare-spare, provenance-safety-down-to-floors}
 use Rattle.calculus.proofs.Direct.{direct-write}
 
 -- What a replacement leaves outside the adversary's reach
@@ -46,11 +46,8 @@ module _ (w : Tables) (a : Label) (p q : List ℕ) (r : Replacement w a p q) whe
   spare-left : BlocksSpare w a p → BlocksSpare w a q
   spare-left = outside-left (λ _ code. CodeSpares code)
 
-  bare-spare-left : BareBlocksSpare w a p → BareBlocksSpare w a q
-  bare-spare-left = outside-left (λ header code. header .endorsed ≡ false → CodeSpares code)
-
-  bare-left : NoneEndorsedOutside w a p → NoneEndorsedOutside w a q
-  bare-left = outside-left (λ header _. header .endorsed ≡ false)
+  floors-left : FloorsOutOfReach w a p → FloorsOutOfReach w a q
+  floors-left = outside-left (λ header _. FloorOutOfReach w a header)
 
 -- From what a rule gives to no confused deputy
 
@@ -98,13 +95,17 @@ capability-deputy-safety a store p w s in-a _ sheet spare =
         (blocks-safe a c g refl in-a (spare .0) blocks) .low
 
 -- Theorem 5
-pub deputy-safety : DeputySafety
-deputy-safety a store p w s in-a _ sheet spare =
+pub deputy-safety-down-to-floors : DeputySafetyDownToFloors
+deputy-safety-down-to-floors a store p w s in-a _ sheet spare =
     no-confused-deputy 2 store w s sheet a in-a p
     (kept-alike 2 store w s sheet a in-a p (λ q out r x.
-    provenance-safety a (endCall 2 store w s sheet q out x) (x .old) (endGood 2 store w s sheet q out x) refl in-a (spare .0)
-    (bare-spare-left w a p q r (spare .1)) (bare-left w a p q r (spare .2))))
+    provenance-safety-down-to-floors a (endCall 2 store w s sheet q out x) (x .old) (endGood 2 store w s sheet q out x) refl in-a (spare .0)
+    (spare-left w a p q r (spare .1 .0), floors-left w a p q r (spare .1 .1))))
     (others-low 2 store w s sheet a in-a p (λ e. omega arith))
+
+pub deputy-safety : DeputySafety
+deputy-safety a store p w s in-a d sheet spare =
+    deputy-safety-down-to-floors a store p w s in-a d sheet (spare .0, bare-spare w a p (spare .1))
 
 -- Theorem 7
 pub noninterference-suffices : NoninterferenceSuffices
@@ -112,24 +113,34 @@ noninterference-suffices rule other a store p w s in-a d sheet alike =
     no-confused-deputy rule store w s sheet a in-a p (alike store store s s d d sheet sheet (λ i b. refl)) (others-low rule store w s sheet a in-a p other)
 
 -- Theorem 6, by the source's way: full provenance gives noninterference
-full-noninterference : (rule : ℕ) → FullRule rule → (w : Tables) (a : Label) (p : List ℕ) → a < w .order .n → NoneEndorsedOutside w a p
+full-noninterference : (rule : ℕ) → FullRule rule → (w : Tables) (a : Label) (p : List ℕ) → a < w .order .n → FloorsOutOfReach w a p
     → Noninterference rule w a p
-full-noninterference rule full w a p in-a bare store store′ s s′ _ _ sheet sheet′ agree q q′ _ _ r r′ out out′ x x′ =
-    forth a store store′ w s s′ sheet sheet′ in-a agree p bare q q′ r r′ out out′
+full-noninterference rule full w a p in-a clear store store′ s s′ _ _ sheet sheet′ agree q q′ _ _ r r′ out out′ x x′ =
+    forth a store store′ w s s′ sheet sheet′ in-a agree p clear q q′ r r′ out out′
     (record { rule = rule; full = full; run = x }) (record { rule = rule; full = full; run = x′ })
 
 full-not-1 : (rule : ℕ) → FullRule rule → rule ≡ 1 → ⊥
 full-not-1 rule (byNumber e) h = omega arith
 full-not-1 rule (byDefault e) h = omega arith
 
+pub full-deputy-safety-down-to-floors : FullDeputySafetyDownToFloors
+full-deputy-safety-down-to-floors rule full a store p w s in-a d sheet clear =
+    noninterference-suffices rule (full-not-1 rule full) a store p w s in-a d sheet (full-noninterference rule full w a p in-a clear)
+
 pub full-deputy-safety : FullDeputySafety
 full-deputy-safety rule full a store p w s in-a d sheet bare =
-    noninterference-suffices rule (full-not-1 rule full) a store p w s in-a d sheet (full-noninterference rule full w a p in-a bare)
+    full-deputy-safety-down-to-floors rule full a store p w s in-a d sheet (no-floors w a p bare)
 
--- Theorem 7 from demand 3
-pub isolation-suffices : IsolationSuffices
-isolation-suffices a store p w s in-a sheet agree d bare rule full =
+-- Theorem 7 from demand 3, of whatever programmes it speaks of
+suffices-where : (Condition : Tables → Label → List ℕ → Type 0) → IsolationSufficesWhere Condition
+suffices-where Condition a store p w s in-a sheet agree d met rule full =
     no-confused-deputy rule store w s sheet a in-a p
     (λ q q′ b b′ r r′ out out′ x x′.
-    agree p d bare q q′ b b′ r r′ out out′ (record { rule = rule; full = full; run = x }) (record { rule = rule; full = full; run = x′ }))
+    agree p d met q q′ b b′ r r′ out out′ (record { rule = rule; full = full; run = x }) (record { rule = rule; full = full; run = x′ }))
     (others-low rule store w s sheet a in-a p (full-not-1 rule full))
+
+pub isolation-suffices : IsolationSuffices
+isolation-suffices = suffices-where _
+
+pub isolation-suffices-down-to-floors : IsolationSufficesDownToFloors
+isolation-suffices-down-to-floors = suffices-where _

@@ -9,8 +9,8 @@ use native.Mathlib.Omega.{arith}
 use lib.ListN.{getD, length, set, replicate, length-replicate}
 use lib.Dec.{ltb}
 use lib.Seq.{getD-set-same}
-use borrow.Author.Tests.{ltb-true, lt-ltb, le-leb, lt-leb, eqb-true, eq-eqb}
-use Rattle.lattice.specs.Tests.{_and_, _or_, every}
+use borrow.Author.Tests.{ltb-true, lt-ltb, le-leb, eqb-true, eq-eqb}
+use Rattle.lattice.specs.Tests.{_and_, _or_, _implies_, every}
 use Rattle.lattice.specs.declared.Table.{Table}
 use Rattle.lattice.specs.Order.{Label, mostPrincipals, below, top}
 use Rattle.lattice.proofs.Tests.{and-l, and-r, or-at, or-l, imp-of}
@@ -26,9 +26,10 @@ use Rattle.store.proofs.Bytes.{value-read, value-again}
 use Rattle.store.proofs.Opening.{Opens}
 use Rattle.programme.specs.Syntax.{literal, cmd, assign}
 use Rattle.programme.specs.Code.{upTo, readValue, readLiteral, exprBy, readExpr, exprAt, sorted, cmdByte, readAssign, bodyBy, readBody, readBlock}
+use Rattle.programme.proofs.Heading.{header-bare}
 use Rattle.programme.specs.Sheet.{Block, kOf, endorsedBit, headerOf, startOf, headerGood, blockAt, blocksFrom, programmeSheet}
 use Rattle.programme.proofs.Due.{expr-is-literal}
-use Rattle.calculus.specs.Rules.{RuleSet, accessControl, capability, explicitProvenance, fullProvenance, rulesOf, judgesViews, labelsJudged, allAbove}
+use Rattle.calculus.specs.Rules.{RuleSet, accessControl, capability, explicitProvenance, fullProvenance, rulesOf, judgesViews, labelsJudged, allAbove, labelsSuffice}
 use Rattle.calculus.specs.Calculus.{Setting, Store, State, inRegion, mayHold, admit, eval, authorised, reliable, permit, assignment, counted, written, performed, step, exec, execBody}
 use Rattle.calculus.specs.Blocks.{setting, runBlocks, start}
 use Rattle.calculus.specs.Run.{Call, call, Finished, runProgramme, runOpened, runUnder, run, answerOf, output}
@@ -120,21 +121,20 @@ code-read m i v l h f =
     )
 
 -- a principal's number leaves the endorsed bit clear
-header-read : (a : Label) → a < endorsedBit → headerOf a ≡ record { region = a; endorsed = false }
-unfolding headerOf
-header-read a h = ap₂ (λ (r : ℕ) (e : Bool). record { region = r; endorsed = e }) (omega arith) (lt-leb endorsedBit a h)
+header-read : (a : Label) → a < endorsedBit → headerOf a 0 ≡ record { region = a; endorsed = false; floor = 0 }
+header-read a h = sym (header-bare a 0 h) ∙ ap (λ (r : ℕ). record { region = r; endorsed = false; floor = 0 }) (omega arith)
 
 -- the block, and the programme of this block alone
 abbrev block : Label → ℕ → Value → Block
 block a i v =
-    record { header = record { region = a; endorsed = false }; command = cmd 0 (assign (literal (view i)) (literal (again v))) }
+    record { header = record { region = a; endorsed = false; floor = 0 }; command = cmd 0 (assign (literal (view i)) (literal (again v))) }
 
 abbrev programme : Label → ℕ → Value → List ℕ
 programme a i v = one a (code i v)
 
 programme-read : (n m : ℕ) (a : Label) (i : ℕ) (v : Value) → n ≤ mostPrincipals → m ≤ mostSlots → a < n → i < m → wellFormed m v ≡ true
     → programmeSheet n m (programme a i v) ≡ ok (block a i v ∷ [])
-unfolding programmeSheet headerGood blockAt blocksFrom startOf every _and_ _>>=_ require refusedAs numberAt valueBytes numberBytes
+unfolding programmeSheet headerGood blockAt blocksFrom startOf every _and_ _implies_ _>>=_ require refusedAs numberAt valueBytes numberBytes
 programme-read n m a i v few l in-a h f = rw (header-read a (omega arith), lt-ltb a n in-a, code-read m i v l h f)
 
 -- and it is a sheet: its numbers are bytes
@@ -161,7 +161,7 @@ programme-bytes : (a : Label) (i : ℕ) (v : Value) → a < endorsedBit → Byte
 unfolding valueBytes numberBytes AllBytes
 programme-bytes a i v h =
     let coded : AllBytes (code i v ++ []) = (omega arith, literal-bytes (view i) (lit (valueBytes v) ++ []) (literal-bytes v [] tt)) in
-    let sized : AllBytes (size ∷ 0 ∷ (code i v ++ [])) = (omega arith, (omega arith, coded)) in
+    let sized : AllBytes (size ∷ 0 ∷ 0 ∷ (code i v ++ [])) = (omega arith, (omega arith, (omega arith, coded))) in
     all-bytes (programme a i v) (omega arith, (omega arith, (omega arith, (omega arith, sized))))
 
 -- The run
@@ -198,7 +198,7 @@ module _ (rules : RuleSet) (w : Tables) (a : Label) (i : ℕ) (v : Value) (s : S
   -- the slot's owner is at or below the region, and at or below the top, the label of both literals and of the branch
   block-run : runBlocks w rules 1 0 (block a i v ∷ []) (start s) ≡ ok (after i v s)
   unfolding _>>=_ require refusedAs _or_
-      admit eval reliable permit assignment counted written performed step exec execBody runBlocks start
+      admit eval labelsSuffice reliable permit assignment counted written performed step exec execBody runBlocks start
   block-run = rw (holds-view, holds-value, may-write, judged-top rules (w .order) (ownerOf w i) (top (w .order)) high)
 
 module _ (rule : ℕ) (rules : RuleSet) (ruled : rulesOf rule ≡ ok rules)

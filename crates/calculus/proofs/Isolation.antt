@@ -1,7 +1,7 @@
 -- Demand 3: noninterference under full provenance, on bytes. Assumes nothing.
 use Prim.Native.Nat.{ℕ, _*_, _<_}
 use mathlib.Core.Path.{_≡_, refl, sym, ap, _∙_}
-use mathlib.Core.Bool.{true, false}
+use mathlib.Core.Bool.{true, false, true≢false}
 use mathlib.Core.List.{List}
 use native.Mathlib.Omega.{arith}
 use native.Mathlib.Decide.{decLt}
@@ -33,7 +33,7 @@ use Rattle.calculus.proofs.Taint.{Tainted, Agree}
 use Rattle.calculus.proofs.Noninterference.{Alike, Opposite, alike, reached, blocks-isolated}
 use Rattle.calculus.specs.Run.{Call, call, Finished, runProgramme, runOpened, runUnder, run, answerOf, outputOf, output}
 use Rattle.calculus.specs.Vectors.{none}
-use Rattle.calculus.specs.Isolation.{withinReach, StoresAgree, OutputsAgree, Replaced, unchanged, exchanged, Replacement, FullRule, byNumber, byDefault, FullRules, FullRun, RunsAgree, Isolation}
+use Rattle.calculus.specs.Isolation.{withinReach, StoresAgree, OutputsAgree, Replaced, unchanged, exchanged, Replacement, FloorOutOfReach, FloorsOutOfReach, FullRule, byNumber, byDefault, FullRules, FullRun, RunsAgreeWhere, Isolation, IsolationDownToFloors}
 use Rattle.calculus.specs.Deputy.{NoneEndorsedOutside}
 use Rattle.calculus.proofs.Finished.{run-finished}
 
@@ -64,12 +64,12 @@ abbrev made : ℕ → ℕ → Header → List ℕ → Result Answer Block
 made m i h code = refusedAs (inBlock i) (readBlock m code) >>= λ c. ok (record { header = h; command = c })
 
 module _ (w : Tables) (a : Label) where
-  same-block : (m i : ℕ) (h h′ : Header) (c c′ : List ℕ) → h ≡ h′ → c ≡ c′ → h′ .endorsed ≡ false
+  same-block : (m i : ℕ) (h h′ : Header) (c c′ : List ℕ) → h ≡ h′ → c ≡ c′ → FloorOutOfReach w a h′
       → Post₂ (Opposite w a) (made m i h c) (made m i h′ c′)
-  same-block m i h h′ c c′ e e′ bare =
+  same-block m i h h′ c c′ e e′ clear =
       rw (e, e′) (
       post₂-bind _ _ _ _ _ _ (post₂-equal Any _ _ refl (post-all _ _ _ (λ _. tt) (λ _. tt))) λ x y q.
-      post₂-ok _ _ _ _ (alike (ap (λ (z : Cmd). record { header = h′; command = z }) (q .0)) bare))
+      post₂-ok _ _ _ _ (alike (ap (λ (z : Cmd). record { header = h′; command = z }) (q .0)) clear))
 
   reached-block : (m i : ℕ) (h h′ : Header) (c c′ : List ℕ) → Tainted w a (h .region) → Tainted w a (h′ .region)
       → Post₂ (Opposite w a) (made m i h c) (made m i h′ c′)
@@ -83,16 +83,16 @@ module _ (w : Tables) (a : Label) where
   stays p q i (unchanged e c) l = ap (λ (h : Header). below (w .order) (h .region) a) e ∙ l
   stays p q i (exchanged x y) l = y
 
-  -- within reach a block may be endorsed
-  opposite : (m : ℕ) (p q q′ : List ℕ) (i : ℕ) → (withinReach w a p i ≡ false → headerAt p i .endorsed ≡ false)
+  -- within reach a block may be endorsed, down to any floor
+  opposite : (m : ℕ) (p q q′ : List ℕ) (i : ℕ) → (withinReach w a p i ≡ false → FloorOutOfReach w a (headerAt p i))
       → Replaced w a p q i → Replaced w a p q′ i → Post₂ (Opposite w a) (blockAt m q i) (blockAt m q′ i)
   unfolding blockAt
-  opposite m p q q′ i bare (unchanged e c) (unchanged e′ c′) =
+  opposite m p q q′ i clear (unchanged e c) (unchanged e′ c′) =
       cases (withinReach w a p i)
       (λ l. reached-block m i _ _ _ _ (stays p q i (unchanged e c) l) (stays p q′ i (unchanged e′ c′) l))
-      (λ l. same-block m i _ _ _ _ (e ∙ sym e′) (c ∙ sym c′) (ap (λ (h : Header). h .endorsed) e′ ∙ bare l))
-  opposite m p q q′ i bare (unchanged e c) (exchanged x y) = reached-block m i _ _ _ _ (stays p q i (unchanged e c) x) y
-  opposite m p q q′ i bare (exchanged x y) r = reached-block m i _ _ _ _ y (stays p q′ i r x)
+      (λ l. same-block m i _ _ _ _ (e ∙ sym e′) (c ∙ sym c′) (rw e′ (clear l)))
+  opposite m p q q′ i clear (unchanged e c) (exchanged x y) = reached-block m i _ _ _ _ (stays p q i (unchanged e c) x) y
+  opposite m p q q′ i clear (exchanged x y) r = reached-block m i _ _ _ _ y (stays p q′ i r x)
 
   -- Two runs
 
@@ -103,13 +103,13 @@ module _ (w : Tables) (a : Label) where
 
   module _ (o : Ordered w) (in-a : a < w .order .n) (c c′ : Call) (full : FullRule (c .rule)) (full′ : FullRule (c′ .rule)) (s s′ : Store)
       (sheet : storeSheet (c .store) ≡ ok (record { tables = w; store = s })) (sheet′ : storeSheet (c′ .store) ≡ ok (record { tables = w; store = s′ }))
-      (m : Agree w a s s′) (p : List ℕ) (bare : NoneEndorsedOutside w a p)
+      (m : Agree w a s s′) (p : List ℕ) (clear : FloorsOutOfReach w a p)
       (r : Replacement w a p (c .programme)) (r′ : Replacement w a p (c′ .programme)) where
     programmes-opposite : Post₂ (Each (Opposite w a))
         (programmeSheet (w .order .n) (w .slots) (c .programme)) (programmeSheet (w .order .n) (w .slots) (c′ .programme))
     programmes-opposite =
         programmes₂ (Opposite w a) _ _ (c .programme) (c′ .programme) (r′ .count ∙ sym (r .count))
-        (λ i l. let k : i < kOf p = rw (r .count) at l in opposite _ p _ _ i (bare i k) (r .each i k) (r′ .each i k))
+        (λ i l. let k : i < kOf p = rw (r .count) at l in opposite _ p _ _ i (clear i k) (r .each i k) (r′ .each i k))
 
     runs₂ : Post₂ Ends (run c) (run c′)
     unfolding runProgramme runOpened runUnder run start _>>=_ refusedAs
@@ -193,40 +193,56 @@ module _ (a : Label) (store store′ : List ℕ) (w : Tables) (s s′ : Store)
       go i p (yes l) = h i (record { inside = l; above = p })
       go i p (no l) = opens store w s sheet .outside i (omega arith) ∙ sym (opens store′ w s′ sheet′ .outside i (omega arith))
 
-  -- the way forth needs no bytes: it holds of any lists of numbers, and where no block outside the adversary's reach is endorsed
+  -- the way forth needs no bytes: it holds of any lists of numbers
   pub forth : a < w .order .n → StoresAgree w a s s′
-      → (p : List ℕ) → NoneEndorsedOutside w a p → (q q′ : List ℕ) → Replacement w a p q → Replacement w a p q′
+      → (p : List ℕ) → FloorsOutOfReach w a p → (q q′ : List ℕ) → Replacement w a p q → Replacement w a p q′
       → (out out′ : List ℕ) → FullRun store q out → FullRun store′ q′ out′ → OutputsAgree w a out out′
-  forth in-a h p bare q q′ r r′ out out′ x x′ i b =
+  forth in-a h p clear q q′ r r′ out out′ x x′ i b =
       let c = call store q (x .rule) (x .run .budget) (x .run .old) in
       let c′ = call store′ q′ (x′ .rule) (x′ .run .budget) (x′ .run .old) in
       let f = run-finished c (x .run .finishes) in
       let f′ = run-finished c′ (x′ .run .finishes) in
       let e : Ends w a (f .0) (f′ .0) =
       post₂-at _ _ _ _ _
-      (runs₂ w a (opens store w s sheet .ordered) in-a c c′ (x .full) (x′ .full) s s′ sheet sheet′ (opening-agrees h) p bare r r′) (f .1) (f′ .1) in
+      (runs₂ w a (opens store w s sheet .ordered) in-a c c′ (x .full) (x′ .full) s s′ sheet sheet′ (opening-agrees h) p clear r r′) (f .1) (f′ .1) in
       ap (λ (l : List ℕ). part l (slotWidth * i) slotWidth) (x .run .ends)
       ∙ output-part c (x .run .old) (f .0) (f .1) i (rw (e .slots) (b .inside))
       ∙ ap slotBytes (e .agree .held i (b .above))
       ∙ sym (output-part c′ (x′ .run .old) (f′ .0) (f′ .1) i (rw (e .slots′) (b .inside)))
       ∙ sym (ap (λ (l : List ℕ). part l (slotWidth * i) slotWidth) (x′ .run .ends))
 
-  back : Bytes store → Bytes store′ → RunsAgree w a store store′ → StoresAgree w a s s′
+  -- the way back asks one programme, the empty one
+  back : (Condition : List ℕ → Type 0) → Condition none → Bytes store → Bytes store′ → RunsAgreeWhere Condition w a store store′
+      → StoresAgree w a s s′
   unfolding numberAt every _and_
-  back d d′ h i b =
+  back Condition met d d′ h i b =
       let self = same-again w a none in
       let few : Bytes none = bytes-of none refl in
       let e =
-      h none few (λ i l. absurd (omega arith)) none none few few self self _ _
+      h none few met none none few few self self _ _
       (full-none store w s sheet) (full-none store′ w s′ sheet′) i b in
       opens store w s sheet .inside i (b .inside)
       ∙ ap opened (values-one store store′ _ _ d d′ (
       sym (none-part store w s sheet i (b .inside)) ∙ e ∙ none-part store′ w s′ sheet′ i (b .inside)))
       ∙ sym (opens store′ w s′ sheet′ .inside i (b .inside))
 
--- Demand 3
+-- the empty programme has no block
+none-in-none : (P : ℕ → Type 0) (i : ℕ) → i < kOf none → P i
+unfolding numberAt
+none-in-none P i l = absurd (omega arith)
+
+-- Demand 3, down to floors; with no endorsed block there is no floor to ask for
+pub isolated-down-to-floors : IsolationDownToFloors
+isolated-down-to-floors a store store′ w s s′ in-a d d′ sheet sheet′ = (
+  λ h p _ clear q q′ _ _ r r′. forth a store store′ w s s′ sheet sheet′ in-a h p clear q q′ r r′,
+  back a store store′ w s s′ sheet sheet′ _ (none-in-none _) d d′,
+)
+
+pub no-floors : (w : Tables) (a : Label) (p : List ℕ) → NoneEndorsedOutside w a p → FloorsOutOfReach w a p
+no-floors w a p bare i l out e = absurd (true≢false (sym e ∙ bare i l out))
+
 pub isolated : Isolation
 isolated a store store′ w s s′ in-a d d′ sheet sheet′ = (
-  λ h p _ bare q q′ _ _ r r′. forth a store store′ w s s′ sheet sheet′ in-a h p (λ i l _. bare i l) q q′ r r′,
-  back a store store′ w s s′ sheet sheet′ d d′,
+  λ h p b bare. isolated-down-to-floors a store store′ w s s′ in-a d d′ sheet sheet′ .0 h p b (no-floors w a p (λ i l _. bare i l)),
+  back a store store′ w s s′ sheet sheet′ _ (none-in-none _) d d′,
 )

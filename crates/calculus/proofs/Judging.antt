@@ -1,24 +1,25 @@
 -- The rules of expressions, guards and assignments say what the functions of Calculus.antt compute. Assumes nothing.
 use Prim.Native.Nat.{ℕ}
 use mathlib.Core.Path.{_≡_, refl, sym, ap, _∙_}
-use mathlib.Core.Logic.{_↔_}
+use mathlib.Core.Logic.{_↔_, ⊎-elim}
 use mathlib.Core.Bool.{Bool, true, false, true≢false}
 use mathlib.Core.List.{List, _∷_}
 use native.Mathlib.Omega.{arith}
-use Rattle.lattice.specs.Tests.{_and_, _or_, _implies_}
+use Rattle.lattice.specs.Tests.{_and_, _implies_}
 use Rattle.lattice.specs.Order.{Label}
-use Rattle.lattice.proofs.Tests.{and-l, and-r, and-of, or-r, imp-at, imp-of, is-false}
+use Rattle.lattice.proofs.Tests.{and-l, and-r, and-of, or-at, or-l, or-r, imp-at, imp-of, is-false}
 use Rattle.store.specs.Result.{Result, ok, refuse, _>>=_, require}
 use Rattle.store.specs.declared.Value.{Value}
 use Rattle.store.specs.Value.{isWriteView, viewed}
 use Rattle.store.specs.Sheet.{ownerOf}
 use Rattle.store.proofs.Result.{Post, one-value, one-refusal, not-both, post-ok, post-map, post-bind, post-require}
 use Rattle.programme.specs.Syntax.{Expr, literal, read, operation, cmd, assign}
-use Rattle.calculus.specs.Rules.{RuleSet, accessControl, capability, explicitProvenance, fullProvenance, judgesViews, judgesRegion, labelsJudged, allAbove}
+use Rattle.calculus.specs.Rules.{RuleSet, accessControl, capability, explicitProvenance, fullProvenance, judgesViews, judgesRegion, labelsJudged, allAbove, labelsSuffice}
 use Rattle.calculus.specs.Calculus.{Setting, Store, Labelled, Judged, inRegion, mayHold, admit, fetch, operate, eval, judge, authorised, reliable, permit, assignment, written}
-use Rattle.calculus.specs.Reduction.{Region, semantics, asks, _⊢⟨_∣_⟩⇓_^_, Val, Deref, Operate, _⊢⟨_∣_⟩⇓if_^_, Guard, Code, _⨾_, ⟨_∣_∣_⟩, _⊢_⟶_, If, Else, While-1, While-2, Assign, Config}
+use Rattle.calculus.specs.Reduction.{Region, Trusts, by-owner, by-floor, semantics, asks, _⊢⟨_∣_⟩⇓_^_, Val, Deref, Operate, _⊢⟨_∣_⟩⇓if_^_, Guard, Code, _⨾_, ⟨_∣_∣_⟩, _⊢_⟶_, If, Else, While-1, While-2, Assign, Config}
 use Rattle.calculus.specs.Forbidden.{_⊢⟨_∣_⟩⇑_, Val-15, Deref-in, Deref-13, Deref-15, Left-in, Right-in, Operate-13, Task, judging, assigning, Tries, Tries-if, Tries-while, Tries-assign, _⊢⟨_∣_⟩✗_, Guard-in, Guard-13, Target-in, Target-13, Value-in, Assign-14, Assign-16}
 use Rattle.calculus.specs.Exact.{From13To16}
+use Rattle.calculus.proofs.Suffices.{none-judged}
 
 -- Tests and what they say
 
@@ -28,11 +29,6 @@ fails b f e p = true≢false (sym (f .1 p) ∙ e)
 
 failed : {P : Type 0} (b : Bool) → (b ≡ true) ↔ P → (P → ⊥) → b ≡ false
 failed b f n = is-false b (λ e. n (f .0 e))
-
-or-says : {P : Type 0} (a b : Bool) → (b ≡ true) ↔ P → (a or b ≡ true) ↔ (a ≡ false → P)
-unfolding _or_
-or-says true b f = (λ _ e. absurd (true≢false e), λ _. refl)
-or-says false b f = (λ e _. f .0 e, λ g. f .1 (g refl))
 
 -- a region, whatever the budget
 abbrev pub regionOf : Setting → Region
@@ -57,18 +53,28 @@ module _ (w : Setting) where
   authority explicitProvenance r = (λ e. e, λ e. e)
   authority fullProvenance r = (λ e. e, λ e. e)
 
+  -- P is what the test of all labels says of a principal
+  trusts : (r : ℕ) (ls : List Label) (P : Label → Type 0) → ((x : Label) → (allAbove (w .tables .order) x ls ≡ true) ↔ P x)
+      → (labelsSuffice (w .tables .order) (w .header) (ownerOf (w .tables) r) ls ≡ true) ↔ Trusts ρ r P
+  unfolding labelsSuffice
+  trusts r ls P f = (λ e. ⊎-elim (λ a. by-owner (f _ .0 a)) (λ a. by-floor (and-l _ _ a) (f _ .0 (and-r _ _ a))) (or-at _ _ e), back)
+    where
+      back : Trusts ρ r P → labelsSuffice (w .tables .order) (w .header) (ownerOf (w .tables) r) ls ≡ true
+      back (by-owner p) = or-l _ _ (f _ .1 p)
+      back (by-floor e p) = or-r _ _ (and-of _ _ e (f _ .1 p))
+
   trusted : (rules : RuleSet) (r : ℕ) (l l′ pc : Label)
-      → (w .header .endorsed or allAbove (w .tables .order) (ownerOf (w .tables) r) (labelsJudged rules l l′ pc) ≡ true) ↔ semantics rules ρ .labels r l l′ pc
+      → (labelsSuffice (w .tables .order) (w .header) (ownerOf (w .tables) r) (labelsJudged rules l l′ pc) ≡ true) ↔ semantics rules ρ .labels r l l′ pc
   unfolding labelsJudged semantics allAbove
-  trusted accessControl r l l′ pc = (λ _. tt, λ _. or-r _ _ refl)
-  trusted capability r l l′ pc = (λ _. tt, λ _. or-r _ _ refl)
+  trusted accessControl r l l′ pc = (λ _. tt, λ _. none-judged _ _ _)
+  trusted capability r l l′ pc = (λ _. tt, λ _. none-judged _ _ _)
   trusted explicitProvenance r l l′ pc =
-      or-says _ _ (λ e. (and-l _ _ e, and-l _ _ (and-r _ _ e)), λ p. and-of _ _ (p .0) (and-of _ _ (p .1) refl))
+      trusts r _ _ (λ x. (λ e. (and-l _ _ e, and-l _ _ (and-r _ _ e)), λ p. and-of _ _ (p .0) (and-of _ _ (p .1) refl)))
   trusted fullProvenance r l l′ pc =
-      or-says _ _ (
+      trusts r _ _ (λ x. (
         λ e. (and-l _ _ e, and-l _ _ (and-r _ _ e), and-l _ _ (and-r _ _ (and-r _ _ e))),
         λ p. and-of _ _ (p .0) (and-of _ _ (p .1) (and-of _ _ (p .2) refl)),
-      )
+      ))
 
   may-hold : (v : Value) → (mayHold w v ≡ true) ↔ asks ρ .value v
   may-hold v = admitted (w .rules) v

@@ -1,7 +1,6 @@
 -- The rule ladder and larger budgets. Assumes nothing.
 use Prim.Native.Nat.{ℕ, _≤_}
 use mathlib.Core.Path.{_≡_, refl}
-use mathlib.Core.Logic.{⊎-elim}
 use mathlib.Core.Bool.{Bool, true, false}
 use mathlib.Core.List.{List, [], _∷_, _++_}
 use native.Mathlib.Omega.{arith}
@@ -10,7 +9,7 @@ use borrow.Author.Tests.{le-leb}
 use Rattle.lattice.specs.Tests.{_and_, _implies_}
 use Rattle.lattice.specs.declared.Table.{Table}
 use Rattle.lattice.specs.Order.{Label}
-use Rattle.lattice.proofs.Tests.{and-l, and-r, and-of, imp-at, or-at, or-l, or-r}
+use Rattle.lattice.proofs.Tests.{and-l, and-r, and-of, imp-at}
 use Rattle.store.specs.declared.Answer.{Answer}
 use Rattle.store.specs.Result.{Result, ok, refuse, _>>=_, require, refusedAs}
 use Rattle.store.specs.Sheet.{Tables}
@@ -22,6 +21,7 @@ use Rattle.calculus.specs.Blocks.{Halt, haltAnswer, setting, runBlocks, 
 use Rattle.calculus.specs.Run.{Call, underRule, withBudget, Finished, runProgramme, runOpened, runUnder, run, answerOf, outputOf}
 use Rattle.calculus.specs.Ladder.{Descent, Ladder, Budgets, Further}
 use Rattle.calculus.proofs.Blocks.{halted}
+use Rattle.calculus.proofs.Suffices.{as-others}
 use Rattle.calculus.proofs.Unless.{Unless, same-test, unless-same, unless-require, unless-then, unless-refused-as}
 use Rattle.calculus.proofs.Eased.{Eased}
 use Rattle.calculus.proofs.Milder.{Milder, blocks-eased}
@@ -89,11 +89,11 @@ unfolding Post answerOf
 ends old {r = ok f} u h = rw (u .else tt) (refl, refl)
 ends old {r = refuse a} u h = rw (u .else h) (refl, refl)
 
--- where all of some labels stand above the owner, so do the first ones
-firsts-above : (t : Table) (owner : Label) (ls more : List Label) → allAbove t owner (ls ++ more) ≡ true → allAbove t owner ls ≡ true
+-- where all of some labels stand at or above a principal, so do the first ones
+firsts-above : (t : Table) (x : Label) (ls more : List Label) → allAbove t x (ls ++ more) ≡ true → allAbove t x ls ≡ true
 unfolding allAbove
-firsts-above t owner [] more e = refl
-firsts-above t owner (l ∷ ls) more e = and-of _ _ (and-l _ _ e) (firsts-above t owner ls more (and-r _ _ e))
+firsts-above t x [] more e = refl
+firsts-above t x (l ∷ ls) more e = and-of _ _ (and-l _ _ e) (firsts-above t x ls more (and-r _ _ e))
 
 -- rules that judge alike but for the labels, of which the second judge only the first ones
 fewer-labels : (rules rules′ : RuleSet) → judgesViews rules′ ≡ judgesViews rules → judgesRegion rules′ ≡ judgesRegion rules
@@ -105,7 +105,7 @@ fewer-labels rules rules′ p q f t b =
       views = λ v. rw p same-test;
       regions = λ v _ _. rw q same-test;
       labels = λ i x y branch. record {
-        passes = λ e. ⊎-elim (or-l _ _) (λ a. or-r _ _ (firsts-above _ _ _ (f x y branch .0) (rw (f x y branch .1) at a))) (or-at _ _ e);
+        passes = λ e. as-others _ _ _ _ _ (λ z. firsts-above _ z _ (f x y branch .0)) (rw (f x y branch .1) at e);
         else = λ o. absurd (o refl);
       };
       larger = omega arith;

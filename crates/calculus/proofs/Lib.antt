@@ -7,6 +7,7 @@ pub mod Operations
 pub mod Pairs
 pub mod Invariant
 pub mod Taint
+pub mod Suffices
 pub mod Authority
 pub mod Confined
 pub mod Noninterference
@@ -38,5 +39,6 @@ pub mod Whole
 pub mod Chosen
 pub mod Endorsed
 pub mod Unrelated
+pub mod Floors
 pub mod Vectors
 pub mod Promises

@@ -1,5 +1,5 @@
--- Noninterference under full provenance: two runs of blocks that are the same and not endorsed, or within the adversary's reach on
--- both sides, take stores that agree on the protected slots to such stores. Assumes nothing.
+-- Noninterference under full provenance: two runs of blocks that are the same, not endorsed or down to a floor out of the adversary's reach, or within
+-- its reach on both sides, take stores that agree on the protected slots to such stores. Assumes nothing.
 use Prim.Native.Nat.{ℕ, _+_, _-_}
 use mathlib.Core.Path.{_≡_, refl, sym, ap, _∙_}
 use mathlib.Core.Bool.{Bool, true, false}
@@ -19,11 +19,12 @@ use Rattle.programme.specs.Syntax.{Op, Expr, literal, read, operation, Cmd, cmd
 use Rattle.calculus.specs.Rules.{fullProvenance}
 use Rattle.calculus.specs.Calculus.{Store, Labelled, Judged, Write, State, Stop, inRegion, admit, fetch, operate, eval, judge, authorised, reliable, permit, assignment, counted, written, performed, step, loop, exec, execBody, execs}
 use Rattle.calculus.specs.Blocks.{setting, runBlocks}
+use Rattle.calculus.specs.Isolation.{FloorOutOfReach}
 use Rattle.calculus.proofs.Steps.{choose-both, post-choose, post-tried, post-loop}
 use Rattle.calculus.proofs.Operations.{post-operation}
 use Rattle.calculus.proofs.Pairs.{post₂-step, post₂-loop, agree, apart}
-use Rattle.calculus.proofs.Taint.{Tainted, Principal, Agree, agree-refl, agree-join, agree-both, agree-tainted, tainted-down, principal-meet, tainted-left, tainted-right, eval-principal}
-use Rattle.calculus.proofs.Confined.{under, reliable-at, judge-label, judge-principal, Harmless, assignment-shut, Like, reach-confined, branch-confined}
+use Rattle.calculus.proofs.Taint.{Tainted, Principal, Agree, agree-refl, agree-join, agree-both, agree-tainted, principal-meet, tainted-left, tainted-right, eval-principal}
+use Rattle.calculus.proofs.Confined.{under, shut-by-target, shut-by-value, judge-label, judge-principal, Harmless, assignment-shut, Like, reach-confined, branch-confined}
 
 -- two states whose stores agree on the protected slots
 abbrev pub Alike : Tables → Label → State → State → Type 0
@@ -106,21 +107,21 @@ module _ (w : Tables) (a : Label) (o : Ordered w) (in-a : Principal w a) (h : He
   unfolding judge
   judge-same b b′ s t g e = post₂-equal _ _ _ (rw e) (judge-principal w a o in-a h b s g)
 
-  -- in a block that is not endorsed
-  module _ (bare : h .endorsed ≡ false) where
+  -- in a block that is not endorsed, or down to a floor out of reach
+  module _ (clear : FloorOutOfReach w a h) where
     target-tainted : (budget : ℕ) (branch : Label) (s : Store) (t v : Expr)
         → Post (λ x. Tainted w a (x .label)) Any (eval (under w h budget) s t)
         → Post (Harmless w a) Any (assignment (under w h budget) branch s t v)
     target-tainted budget branch s t v p =
         assignment-shut w a o in-a h (Tainted w a) (Principal w) budget branch s t v p (eval-principal (under w h budget) o s v)
-        (λ x y l _ i q. tainted-down w a o in-a _ _ (reliable-at w h bare budget i x y branch q .by-target) l)
+        (λ x y l _. shut-by-target w a o in-a h clear budget x y branch l)
 
     value-tainted : (budget : ℕ) (branch : Label) (s : Store) (t v : Expr)
         → Post (λ x. Tainted w a (x .label)) Any (eval (under w h budget) s v)
         → Post (Harmless w a) Any (assignment (under w h budget) branch s t v)
     value-tainted budget branch s t v p =
         assignment-shut w a o in-a h (Principal w) (Tainted w a) budget branch s t v (eval-principal (under w h budget) o s t) p
-        (λ x y _ l i q. tainted-down w a o in-a _ _ (reliable-at w h bare budget i x y branch q .by-value) l)
+        (λ x y _ l. shut-by-value w a o in-a h clear budget x y branch l)
 
     module _ (b b′ : ℕ) where
       assignment-same : (branch : Label) (s u : Store) (t v : Expr)
@@ -157,8 +158,8 @@ module _ (w : Tables) (a : Label) (o : Ordered w) (in-a : Principal w a) (h : He
     if-tainted budget at branch g c d p u s e m =
         post-bind _ _ _ _ _ (post-tried _ _ _ _ _ _ (judge-label w a o in-a h (Tainted w a) budget (s .store) g e) tt) λ j l.
         post-choose _ _ _ _ _ _
-        (λ _. branch-confined w a o in-a h bare budget u c _ (tainted-right w a o in-a _ _ p l) (counted s) m)
-        (λ _. branch-confined w a o in-a h bare budget u d _ (tainted-right w a o in-a _ _ p l) (counted s) m)
+        (λ _. branch-confined w a o in-a h clear budget u c _ (tainted-right w a o in-a _ _ p l) (counted s) m)
+        (λ _. branch-confined w a o in-a h clear budget u d _ (tainted-right w a o in-a _ _ p l) (counted s) m)
 
     while-tainted : (budget at : ℕ) (branch : Label) (g : Expr) (c : Cmd) → Principal w branch → (u : Store)
         → ((t : Store) → Agree w a t u → Post (λ x. Tainted w a (x .label)) Any (eval (under w h budget) t g))
@@ -170,7 +171,7 @@ module _ (w : Tables) (a : Label) (o : Ordered w) (in-a : Principal w a) (h : He
     while-tainted budget at branch g c p u e n s m =
         post-loop (Like w a u) Any (λ _ j. Tainted w a (j .label)) _ _ at (λ _ _. tt)
         (λ t q. post-tried _ _ _ _ _ _ (judge-label w a o in-a h (Tainted w a) budget (t .store) g (e (t .store) q)) tt) (λ t j l q. q)
-        (λ _ j l t q. branch-confined w a o in-a h bare budget u c _ (tainted-right w a o in-a _ _ p l) t q) n s m
+        (λ _ j l t q. branch-confined w a o in-a h clear budget u c _ (tainted-right w a o in-a _ _ p l) t q) n s m
 
     -- two runs of one command
     module _ (b b′ : ℕ) where
@@ -235,15 +236,15 @@ module _ (w : Tables) (a : Label) (o : Ordered w) (in-a : Principal w a) (h : He
 
 -- two blocks in the same place of two programmes
 pub data Opposite (w : Tables) (a : Label) (b c : Block) : Type 0 where
-  alike : b ≡ c → b .header .endorsed ≡ false → Opposite w a b c
+  alike : b ≡ c → FloorOutOfReach w a (b .header) → Opposite w a b c
   reached : Tainted w a (b .header .region) → Tainted w a (c .header .region) → Opposite w a b c
 
 module _ (w : Tables) (a : Label) (o : Ordered w) (in-a : Principal w a) (budget budget′ : ℕ) where
   block₂ : (b c : Block) → Opposite w a b c → (s t : State) → Alike w a s t
       → Post₂ (Alike w a) (exec (setting w fullProvenance budget b) (b .command) (top (w .order)) s)
       (exec (setting w fullProvenance budget′ c) (c .command) (top (w .order)) t)
-  block₂ b c (alike e bare) s t m =
-      rw (← e) (twice w a o in-a (b .header) bare budget budget′ (b .command) _ (top-lt (w .order) (o .table)) s t m)
+  block₂ b c (alike e clear) s t m =
+      rw (← e) (twice w a o in-a (b .header) clear budget budget′ (b .command) _ (top-lt (w .order) (o .table)) s t m)
   block₂ b c (reached l k) s t m =
       join w a (t .store) _ _ (reach-confined w a o in-a (b .header) l budget _ (b .command) _ s m)
       (reach-confined w a o in-a (c .header) k budget′ _ (c .command) _ t (agree-refl w a _))

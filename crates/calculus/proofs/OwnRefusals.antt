@@ -6,18 +6,18 @@ use mathlib.Core.List.{[]}
 use native.Mathlib.Omega.{arith}
 use Rattle.lattice.specs.Tests.{_and_, _implies_}
 use Rattle.lattice.specs.Order.{Label}
-use Rattle.lattice.proofs.Tests.{or-r}
 use Rattle.store.specs.declared.Answer.{Answer}
 use Rattle.store.specs.Result.{Result, ok, refuse}
 use Rattle.store.specs.Sheet.{Tables}
 use Rattle.store.proofs.Result.{post-refused}
 use Rattle.programme.specs.Sheet.{Block}
-use Rattle.calculus.specs.Rules.{RuleSet, accessControl, capability, explicitProvenance, fullProvenance, rulesOf, judgesViews, judgesRegion, labelsJudged, allAbove}
+use Rattle.calculus.specs.Rules.{RuleSet, accessControl, capability, explicitProvenance, fullProvenance, rulesOf, judgesViews, judgesRegion, labelsJudged}
 use Rattle.calculus.specs.Calculus.{State, authorised, reliable}
 use Rattle.calculus.specs.Blocks.{Halt, haltAnswer, setting}
 use Rattle.calculus.specs.Faithful.{ownRun}
 use Rattle.calculus.specs.Ladder.{NeverBy, OwnRefusals}
 use Rattle.calculus.proofs.Rules.{rules-one}
+use Rattle.calculus.proofs.Suffices.{none-judged}
 use Rattle.calculus.proofs.Refusals.{Refusing, blocks-refuse-by}
 use Rattle.calculus.proofs.Faithful.{faithfulness}
 
@@ -66,13 +66,13 @@ no-15 rules p w budget b =
 
 -- where no labels are judged
 no-16 : (rules : RuleSet) → ((x y branch : Label) → labelsJudged rules x y branch ≡ []) → Never 16 rules
-unfolding reliable allAbove
+unfolding reliable
 no-16 rules p w budget b =
     record {
       kind = λ e. omega arith;
       region = λ i f e. omega arith;
       view = λ v f e. omega arith;
-      labels = λ i x y branch f. absurd (true≢false (sym (or-r (b .header .endorsed) true refl) ∙ rw (p x y branch) at f));
+      labels = λ i x y branch f. absurd (true≢false (sym (none-judged _ _ _) ∙ rw (p x y branch) at f));
     }
 
 pub own-refusals : OwnRefusals

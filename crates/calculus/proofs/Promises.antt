@@ -8,7 +8,7 @@ use Rattle.calculus.proofs.While.{while-law}
 use Rattle.calculus.proofs.ByRules.{faithfulness-by-rules}
 use Rattle.calculus.proofs.Exact.{exactness}
 use Rattle.calculus.proofs.Faithful.{faithfulness}
-use Rattle.calculus.proofs.Isolation.{full-rule, isolated}
+use Rattle.calculus.proofs.Isolation.{full-rule, isolated-down-to-floors, isolated}
 use Rattle.calculus.proofs.RuleNumbers.{rule-numbers}
 use Rattle.calculus.proofs.Ladder.{ladder, descent, budgets, further}
 use Rattle.calculus.proofs.OwnRefusals.{own-refusals}
@@ -16,13 +16,14 @@ use Rattle.calculus.proofs.Kept.{steps-bounded}
 use Rattle.calculus.proofs.Stepwise.{step-by-step}
 use Rattle.calculus.proofs.Capability.{capability-safety}
 use Rattle.calculus.proofs.Integrity.{write-integrity}
-use Rattle.calculus.proofs.Provenance.{provenance-safety}
-use Rattle.calculus.proofs.Deputy.{capability-deputy-safety, deputy-safety, full-deputy-safety, noninterference-suffices, isolation-suffices}
+use Rattle.calculus.proofs.Provenance.{provenance-safety-down-to-floors, provenance-safety}
+use Rattle.calculus.proofs.Deputy.{capability-deputy-safety, deputy-safety-down-to-floors, deputy-safety, full-deputy-safety-down-to-floors, full-deputy-safety, noninterference-suffices, isolation-suffices, isolation-suffices-down-to-floors}
 use Rattle.calculus.proofs.Whole.{whole-worked, whole-run-not-safe}
 use Rattle.calculus.proofs.Chosen.{chosen-worked, not-enough-under-capability}
-use Rattle.calculus.proofs.Endorsed.{endorsed-worked, endorsed-not-isolated}
+use Rattle.calculus.proofs.Endorsed.{endorsed-worked, floor-worked, endorsed-not-isolated, not-isolated-at-floors, not-isolated-below-floors}
 use Rattle.calculus.proofs.Unrelated.{unrelated-protected}
-use Rattle.calculus.proofs.Vectors.{vectors-hold, descents-hold, faults-hold, misreadings-hold, operations-hold}
+use Rattle.calculus.proofs.Floors.{judged-by-meet, floors-ignored}
+use Rattle.calculus.proofs.Vectors.{vectors-hold, descents-hold, faults-hold, misreadings-hold, operations-hold, floors-hold}
 
 pub promises : Promises
 promises =
@@ -39,8 +40,6 @@ promises =
       isolated = isolated;
       full-rule = full-rule;
       unrelated-protected = unrelated-protected;
-      endorsed-worked = endorsed-worked;
-      endorsed-not-isolated = endorsed-not-isolated;
       rule-numbers = rule-numbers;
       ladder = ladder;
       descent = descent;
@@ -66,4 +65,17 @@ promises =
       three-worked = three-worked;
       wrapping-integers = wrapping-integers;
       operations-hold = operations-hold;
+      isolated-down-to-floors = isolated-down-to-floors;
+      endorsed-worked = endorsed-worked;
+      floor-worked = floor-worked;
+      endorsed-not-isolated = endorsed-not-isolated;
+      not-isolated-at-floors = not-isolated-at-floors;
+      not-isolated-below-floors = not-isolated-below-floors;
+      provenance-safety-down-to-floors = provenance-safety-down-to-floors;
+      deputy-safety-down-to-floors = deputy-safety-down-to-floors;
+      full-deputy-safety-down-to-floors = full-deputy-safety-down-to-floors;
+      isolation-suffices-down-to-floors = isolation-suffices-down-to-floors;
+      judged-by-meet = judged-by-meet;
+      floors-ignored = floors-ignored;
+      floors-hold = floors-hold;
     }

@@ -7,7 +7,7 @@ use mathlib.Core.List.{List, _++_}
 use native.Mathlib.Omega.{arith}
 use lib.ListN.{getD}
 use Rattle.lattice.specs.Tests.{_and_, _or_, _implies_, every, some, find}
-use Rattle.lattice.specs.Order.{bit, inRange, reflexive, antisymmetric, transitive, isMeet, hasMeets, isTop, hasTop, good, meet, top}
+use Rattle.lattice.specs.Order.{below, bit, inRange, reflexive, antisymmetric, transitive, isMeet, hasMeets, isTop, hasTop, good, meet, top}
 use Rattle.lattice.proofs.Tests.{some-at, some-of}
 use Rattle.store.specs.Result.{_>>=_, require, refusedAs, inTurn}
 use Rattle.store.specs.Bytes.{part, numberAt, numberBytes, entries, filled}
@@ -18,14 +18,14 @@ use Rattle.store.proofs.Bytes.{bytes-of}
 use Rattle.store.proofs.Result.{Post, Any, post-at}
 use Rattle.programme.specs.Syntax.{LiteralsOf, Exprs, ExprsBody, Literals}
 use Rattle.programme.specs.Code.{readValue, exprSorted, exprByte, readLiteral, exprBy, readExpr, sorted, cmdByte, readAssign, readIf, bodyBy, readBody, readBlock}
-use Rattle.programme.specs.Sheet.{kOf, headerOf, headerAt, codeOf, startOf, headerGood, blockAt, blocksFrom, programmeSheet}
+use Rattle.programme.specs.Sheet.{kOf, floorOf, headerOf, headerAt, codeOf, startOf, headerGood, blockAt, blocksFrom, programmeSheet}
 use Rattle.programme.proofs.Literals.{literals-join}
-use Rattle.calculus.specs.Rules.{rulesOf, judgesViews, judgesRegion, labelsJudged, allAbove}
+use Rattle.calculus.specs.Rules.{rulesOf, judgesViews, judgesRegion, labelsJudged, allAbove, labelsSuffice}
 use Rattle.calculus.specs.Calculus.{contents, inRegion, admit, fetch, eval, judge, authorised, reliable, permit, assignment, counted, written, performed, step, choose, exec, execBody}
 use Rattle.calculus.specs.Blocks.{runBlocks, start}
 use Rattle.calculus.specs.Run.{call, runProgramme, runOpened, runUnder, run, answerOf, outputOf}
 use Rattle.calculus.specs.Vectors.{int}
-use Rattle.calculus.specs.Isolation.{withinReach, unchanged, exchanged, Replaced, Replacement}
+use Rattle.calculus.specs.Isolation.{withinReach, FloorsOutOfReach, unchanged, exchanged, Replaced, Replacement}
 use Rattle.calculus.specs.Kept.{Spares}
 use Rattle.calculus.specs.Deputy.{ProtectedSpare, BareBlocksSpare, NoControl, DirectWrite}
 use Rattle.calculus.specs.Whole.{WholeRunSafety, sheet, tables, slots, sent, left, WholeWorked}
@@ -55,6 +55,15 @@ blocks-spare own let-in none (suc (suc zero)) h out bare c e =
     literals-join NoView NoView (Spares tables 0) (λ v n _ t p. true≢false (sym t ∙ n)) c l l
 blocks-spare own let-in none (suc (suc (suc i))) h out bare c e = absurd (omega arith)
 
+-- block 1 alone is endorsed, down to principal 1
+floors : headerAt (sent 1) 0 .endorsed ≡ false → below (tables .order) (headerAt (sent 1) 1 .floor) 0 ≡ false → headerAt (sent 1) 2 .endorsed ≡ false
+    → FloorsOutOfReach tables 0 (sent 1)
+unfolding numberAt
+floors first high last zero h out e = absurd (true≢false (sym e ∙ first))
+floors first high last (suc zero) h out e = high
+floors first high last (suc (suc zero)) h out e = absurd (true≢false (sym e ∙ last))
+floors first high last (suc (suc (suc i))) h out e = absurd (omega arith)
+
 -- the adversary may send another block 0
 other : withinReach tables 0 (sent 1) 0 ≡ true → withinReach tables 0 (sent 0) 0 ≡ true → Replacement tables 0 (sent 1) (sent 0)
 unfolding numberAt startOf
@@ -72,8 +81,8 @@ unfolding runProgramme runOpened runUnder run answerOf outputOf
     _>>=_ require refusedAs inTurn numberAt numberBytes entries filled wellFormed valueAt valueBytes opened assigned emptySlot slotBytes
     orderOf tablesOf openingOf valueWidthIn valueGood sizesAllowed slotChecked bodyChecked sheetChecked storeSheet slotsBytes
     readValue exprSorted exprByte readLiteral exprBy readExpr sorted cmdByte readAssign readIf bodyBy readBody readBlock
-    headerOf startOf headerGood blockAt blocksFrom programmeSheet Post LiteralsOf Exprs ExprsBody
-    rulesOf judgesViews judgesRegion labelsJudged allAbove inRegion admit fetch eval judge authorised reliable permit assignment
+    floorOf headerOf startOf headerGood blockAt blocksFrom programmeSheet Post LiteralsOf Exprs ExprsBody
+    rulesOf judgesViews judgesRegion labelsJudged allAbove labelsSuffice inRegion admit fetch eval judge authorised reliable permit assignment
     counted written performed step choose exec execBody runBlocks start
 whole-worked =
     record {
@@ -84,6 +93,7 @@ whole-worked =
       blocks-spare = blocks-spare refl refl (refl, (refl, refl), (refl, refl));
       outside = refl;
       endorsed = refl;
+      floors = floors refl refl refl;
       other = other refl refl;
       seven = refl;
       left-run = record { budget = 10; old = old; finishes = refl; ends = refl };
@@ -122,5 +132,5 @@ whole-run-not-safe h =
     let x = whole-worked in
     let self = same-again tables 0 (sent 1) in
     ⊎-elim controlled not-direct
-    (h 0 sheet (sent 1) tables slots (x .principal) (bytes-of sheet refl) (x .opens) (x .slots-spare, x .blocks-spare)
+    (h 0 sheet (sent 1) tables slots (x .principal) (bytes-of sheet refl) (x .opens) (x .slots-spare, x .blocks-spare, x .floors)
     (sent 1) _ (bytes-of (sent 1) refl) self (x .left-run) 1 (x .protected .inside))

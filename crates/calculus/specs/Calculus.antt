@@ -4,7 +4,7 @@ use mathlib.Core.Bool.{Bool, true, false, not}
 use mathlib.Core.List.{List}
 use lib.ListN.{getD, set}
 use lib.Dec.{eqb}
-use Rattle.lattice.specs.Tests.{_and_, _or_, _implies_}
+use Rattle.lattice.specs.Tests.{_and_, _implies_}
 use Rattle.lattice.specs.Order.{Label, below, meet, top}
 use Rattle.store.specs.Result.{Result, ok, refuse, _>>=_, require, refusedAs}
 use Rattle.store.specs.declared.Value.{Value}
@@ -13,7 +13,7 @@ use Rattle.store.specs.Integers.{sumOf, differenceOf, lessOf}
 use Rattle.store.specs.Sheet.{Tables, ownerOf}
 use Rattle.programme.specs.declared.Header.{Header}
 use Rattle.programme.specs.Syntax.{Op, sum, difference, less, equal, Expr, literal, read, operation, Cmd, cmd, Body, skip, assign, seq, if, while, Cmds, nil, cons}
-use Rattle.calculus.specs.Rules.{RuleSet, judgesViews, judgesRegion, labelsJudged, allAbove}
+use Rattle.calculus.specs.Rules.{RuleSet, judgesViews, judgesRegion, labelsJudged, labelsSuffice}
 
 -- what a block runs under
 pub record Setting : Type 0 where
@@ -106,9 +106,9 @@ pub record Write : Type 0 where
 unfoldable pub authorised : Setting → ℕ → Bool
 authorised w i = judgesRegion (w .rules) implies inRegion w i
 
--- "16 provenance too low": "unless the block is endorsed the labels .. stand at or above the owner"
+-- "16 provenance too low"
 unfoldable pub reliable : Setting → ℕ → List Label → Bool
-reliable w i labels = w .header .endorsed or allAbove (w .tables .order) (ownerOf (w .tables) i) labels
+reliable w i labels = labelsSuffice (w .tables .order) (w .header) (ownerOf (w .tables) i) labels
 
 -- what an assignment of y to the slot that x names is judged by: "then 14, then 16"
 unfoldable pub permit : Setting → Label → Labelled → Labelled → Result ℕ Write

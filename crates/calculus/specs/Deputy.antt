@@ -13,7 +13,7 @@ use Rattle.programme.specs.Sheet.{kOf, headerAt}
 use Rattle.calculus.specs.Calculus.{Store, contents}
 use Rattle.calculus.specs.Run.{Call, FinishedRun}
 use Rattle.calculus.specs.Faithful.{Good}
-use Rattle.calculus.specs.Isolation.{Protected, withinReach, StoresAgree, OutputsAgree, Replacement, NoneEndorsed, FullRule, RunsAgree}
+use Rattle.calculus.specs.Isolation.{Protected, withinReach, StoresAgree, OutputsAgree, Replacement, NoneEndorsed, FloorsOutOfReach, FullRule, RunsAgreeWhere}
 use Rattle.calculus.specs.Kept.{Spares, BlockSpares, SlotsSpare, BlocksSpare, ProtectedKept}
 
 -- Conditions on the opening store and the programme. Definition 5, nihrH, is `SlotsSpare` (specs/Kept.antt).
@@ -32,16 +32,29 @@ BareBlocksSpare w adversary p =
 abbrev pub NoneEndorsedOutside : Tables → Label → List ℕ → Type 0
 NoneEndorsedOutside w adversary p = (i : ℕ) → i < kOf p → withinReach w adversary p i ≡ false → headerAt p i .endorsed ≡ false
 
+abbrev pub BareOutside : Tables → Label → List ℕ → Type 0
+BareOutside w adversary p = BareBlocksSpare w adversary p × NoneEndorsedOutside w adversary p
+
+-- What floors change (document 02, N6): a block outside the adversary's reach may be endorsed where its floor is out of reach too. It is then held to
+-- definition 4 as the others are: rule 2 does not judge the branch in which it writes.
+abbrev pub SpareDownToFloors : Tables → Label → List ℕ → Type 0
+SpareDownToFloors w adversary p = BlocksSpare w adversary p × FloorsOutOfReach w adversary p
+
 -- What the source shows on the way to theorem 5, under rule 2: protected slots hold their opening values at every step.
-abbrev pub ProvenanceSafety : Type 0
-ProvenanceSafety =
+abbrev pub ProvenanceSafetyWhere : (Tables → Label → List ℕ → Type 0) → Type 0
+ProvenanceSafetyWhere Condition =
     (adversary : Label) (c : Call) (old : List ℕ) (g : Good c)
     → c .rule ≡ 2
     → adversary < g .opening .tables .order .n
     → ProtectedSpare (g .opening .tables) adversary (g .opening .store)
-    → BareBlocksSpare (g .opening .tables) adversary (c .programme)
-    → NoneEndorsedOutside (g .opening .tables) adversary (c .programme)
+    → Condition (g .opening .tables) adversary (c .programme)
     → ProtectedKept adversary c old g
+
+abbrev pub ProvenanceSafety : Type 0
+ProvenanceSafety = ProvenanceSafetyWhere BareOutside
+
+abbrev pub ProvenanceSafetyDownToFloors : Type 0
+ProvenanceSafetyDownToFloors = ProvenanceSafetyWhere SpareDownToFloors
 
 -- No confused deputy. Definition 1's context is a programme p with the adversary's code left open: it stands for its replacements. They
 -- are sheets, so lists of bytes, as in demand 3. The source speaks of the slots that an attacker is after, a set that it leaves open; here they
@@ -105,25 +118,38 @@ Noninterference rule w adversary p =
 abbrev pub CapabilityDeputySafety : Type 0
 CapabilityDeputySafety = Prevents 1 (λ w adversary s p. SlotsSpare w adversary s × BlocksSpare w adversary p)
 
--- Theorem 5, explicit provenance
+-- Theorem 5, explicit provenance; with endorsed blocks, down to floors
 abbrev pub DeputySafety : Type 0
-DeputySafety = Prevents 2 (λ w adversary s p. ProtectedSpare w adversary s × BareBlocksSpare w adversary p × NoneEndorsedOutside w adversary p)
+DeputySafety = Prevents 2 (λ w adversary s p. ProtectedSpare w adversary s × BareOutside w adversary p)
 
--- Theorem 6, full provenance: whatever the store and the blocks hold
+abbrev pub DeputySafetyDownToFloors : Type 0
+DeputySafetyDownToFloors = Prevents 2 (λ w adversary s p. ProtectedSpare w adversary s × SpareDownToFloors w adversary p)
+
+-- Theorem 6, full provenance: whatever the store and the blocks hold; with endorsed blocks, down to floors
 abbrev pub FullDeputySafety : Type 0
 FullDeputySafety = (rule : ℕ) → FullRule rule → Prevents rule (λ w adversary s p. NoneEndorsedOutside w adversary p)
 
+abbrev pub FullDeputySafetyDownToFloors : Type 0
+FullDeputySafetyDownToFloors = (rule : ℕ) → FullRule rule → Prevents rule (λ w adversary s p. FloorsOutOfReach w adversary p)
+
 -- Theorem 7: noninterference suffices. The source says it of all four rule sets, since a slot that is not protected is the adversary's to
--- write. Under rule 1 it may not hold every value, and the theorem is false (specs/Chosen.antt).
+-- write. Under rule 1 it may not hold every value, and the theorem is false (specs/Chosen.antt). It asks nothing of endorsed blocks or their floors:
+-- these decide whether there is noninterference.
 abbrev pub NoninterferenceSuffices : Type 0
 NoninterferenceSuffices = (rule : ℕ) → (rule ≡ 1 → ⊥) → Prevents rule (λ w adversary s p. Noninterference rule w adversary p)
 
--- Theorem 7 from demand 3 in its own words, of one opening store and itself
-abbrev pub IsolationSuffices : Type 0
-IsolationSuffices =
+-- Theorem 7 from demand 3 in its own words, of one opening store and itself: of programmes with no endorsed block, and down to floors
+abbrev pub IsolationSufficesWhere : (Tables → Label → List ℕ → Type 0) → Type 0
+IsolationSufficesWhere Condition =
     (adversary : Label) (store p : List ℕ) (w : Tables) (s : Store)
     → adversary < w .order .n
     → storeSheet store ≡ ok (record { tables = w; store = s })
-    → RunsAgree w adversary store store
-    → Bytes p → NoneEndorsed p
+    → RunsAgreeWhere (Condition w adversary) w adversary store store
+    → Bytes p → Condition w adversary p
     → (rule : ℕ) → FullRule rule → NoConfusedDeputy rule w adversary store p
+
+abbrev pub IsolationSuffices : Type 0
+IsolationSuffices = IsolationSufficesWhere (λ w adversary p. NoneEndorsed p)
+
+abbrev pub IsolationSufficesDownToFloors : Type 0
+IsolationSufficesDownToFloors = IsolationSufficesWhere FloorsOutOfReach

@@ -10,6 +10,7 @@ use Rattle.store.specs.Result.{ok}
 use Rattle.store.specs.Bytes.{Bytes, part}
 use Rattle.store.specs.Value.{slotWidth, emptySlot}
 use Rattle.store.specs.Sheet.{Tables, ownerOf, storeSheet}
+use Rattle.programme.specs.declared.Header.{Header}
 use Rattle.programme.specs.Sheet.{kOf, headerAt, codeOf}
 use Rattle.calculus.specs.Rules.{fullProvenance, rulesOf}
 use Rattle.calculus.specs.Calculus.{Store}
@@ -47,6 +48,14 @@ pub record Replacement (w : Tables) (adversary : Label) (p q : List ℕ) : Type 
 abbrev pub NoneEndorsed : List ℕ → Type 0
 NoneEndorsed p = (i : ℕ) → i < kOf p → headerAt p i .endorsed ≡ false
 
+-- "also where blocks outside the stranger's reach are endorsed, provided that none of their floors stands at or below the stranger" (document 02,
+-- N6)
+abbrev pub FloorOutOfReach : Tables → Label → Header → Type 0
+FloorOutOfReach w adversary h = h .endorsed ≡ true → below (w .order) (h .floor) adversary ≡ false
+
+abbrev pub FloorsOutOfReach : Tables → Label → List ℕ → Type 0
+FloorsOutOfReach w adversary p = (i : ℕ) → i < kOf p → withinReach w adversary p i ≡ false → FloorOutOfReach w adversary (headerAt p i)
+
 -- the rule numbers of full provenance; of 255: "A desk run under 255 counts among the runs that protected slots are compared over."
 -- (document 02, N1)
 pub data FullRule (rule : ℕ) : Type 0 where
@@ -63,21 +72,31 @@ pub record FullRun (store programme out : List ℕ) : Type 0 where
   pub full : FullRule rule
   pub run : FinishedRun rule store programme out
 
--- whatever bytes an adversary sends, whenever both runs finish, the two outputs agree
-abbrev pub RunsAgree : Tables → Label → List ℕ → List ℕ → Type 0
-RunsAgree w adversary store store′ =
-    (p : List ℕ) → Bytes p → NoneEndorsed p
+-- Of every programme that meets a condition: whatever bytes an adversary sends, whenever both runs finish, the two outputs agree.
+abbrev pub RunsAgreeWhere : (List ℕ → Type 0) → Tables → Label → List ℕ → List ℕ → Type 0
+RunsAgreeWhere Condition w adversary store store′ =
+    (p : List ℕ) → Bytes p → Condition p
     → (q q′ : List ℕ) → Bytes q → Bytes q′ → Replacement w adversary p q → Replacement w adversary p q′
     → (out out′ : List ℕ) → FullRun store q out → FullRun store′ q′ out′ → OutputsAgree w adversary out out′
 
--- Demand 3: "for any principal as the stranger and any two good opening stores under one order table and one owner array: the stores
--- are equal in every slot that the stranger may not write exactly when .. the two full-provenance runs .., if both finish .., end
--- equal in every such slot."
-abbrev pub Isolation : Type 0
-Isolation =
+abbrev pub RunsAgree : Tables → Label → List ℕ → List ℕ → Type 0
+RunsAgree = RunsAgreeWhere NoneEndorsed
+
+-- "for any principal as the stranger and any two good opening stores under one order table and one owner array: the stores are equal in every slot
+-- that the stranger may not write exactly when .. the two full-provenance runs .., if both finish .., end equal in every such slot"
+abbrev pub IsolationWhere : (Tables → Label → List ℕ → Type 0) → Type 0
+IsolationWhere Condition =
     (adversary : Label) (store store′ : List ℕ) (w : Tables) (s s′ : Store)
     → adversary < w .order .n
     → Bytes store → Bytes store′
     → storeSheet store ≡ ok (record { tables = w; store = s })
     → storeSheet store′ ≡ ok (record { tables = w; store = s′ })
-    → StoresAgree w adversary s s′ ↔ RunsAgree w adversary store store′
+    → StoresAgree w adversary s s′ ↔ RunsAgreeWhere (Condition w adversary) w adversary store store′
+
+-- Demand 3, of "every programme with no endorsed block"
+abbrev pub Isolation : Type 0
+Isolation = IsolationWhere (λ w adversary p. NoneEndorsed p)
+
+-- Demand 3 as document 02, N6 widens it
+abbrev pub IsolationDownToFloors : Type 0
+IsolationDownToFloors = IsolationWhere FloorsOutOfReach

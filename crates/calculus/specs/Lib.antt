@@ -15,6 +15,7 @@ pub mod Deputy
 pub mod Vectors
 pub mod Unrelated
 pub mod Endorsed
+pub mod Floors
 pub mod Whole
 pub mod Chosen
 pub mod Descents

@@ -10,19 +10,20 @@ use Rattle.calculus.specs.RuleNumbers.{RuleNumbers}
 use Rattle.calculus.specs.Faithful.{Faithfulness}
 use Rattle.calculus.specs.Exact.{Exactness, FaithfulnessByRules}
 use Rattle.calculus.specs.Ladder.{Ladder, Descent, Further, OwnRefusals, Budgets}
-use Rattle.calculus.specs.Isolation.{FullRules, Isolation}
+use Rattle.calculus.specs.Isolation.{FullRules, Isolation, IsolationDownToFloors}
 use Rattle.calculus.specs.Kept.{StepByStep, CapabilitySafety, WriteIntegrity}
 use Rattle.calculus.specs.Steps.{WhileLaw, StepsBounded}
-use Rattle.calculus.specs.Deputy.{ProvenanceSafety, CapabilityDeputySafety, DeputySafety, FullDeputySafety, NoninterferenceSuffices, IsolationSuffices}
+use Rattle.calculus.specs.Deputy.{ProvenanceSafety, ProvenanceSafetyDownToFloors, CapabilityDeputySafety, DeputySafety, DeputySafetyDownToFloors, FullDeputySafety, FullDeputySafetyDownToFloors, NoninterferenceSuffices, IsolationSuffices, IsolationSufficesDownToFloors}
 use Rattle.calculus.specs.Vectors.{VectorsHold}
 use Rattle.calculus.specs.Unrelated.{UnrelatedProtected}
-use Rattle.calculus.specs.Endorsed.{EndorsedIsolation, EndorsedWorked}
+use Rattle.calculus.specs.Endorsed.{EndorsedIsolation, IsolationAtFloors, IsolationBelowFloors, EndorsedWorked, FloorWorked}
 use Rattle.calculus.specs.Whole.{WholeRunSafety, WholeWorked}
 use Rattle.calculus.specs.Chosen.{SufficesUnderCapability, ChosenWorked}
 use Rattle.calculus.specs.Descents.{DescentsHold}
 use Rattle.calculus.specs.Faults.{FaultsHold}
 use Rattle.calculus.specs.Misreadings.{MisreadingsHold}
 use Rattle.calculus.specs.Operations.{OperationsHold}
+use Rattle.calculus.specs.Floors.{JudgedByMeet, FloorsIgnored, FloorsHold}
 
 pub record Promises : Type 0 where
   -- Demand 1, "The table is good when ..": the tests of a table say that it is a partial order with meets and a top
@@ -38,13 +39,10 @@ pub record Promises : Type 0 where
   pub vectors-hold : VectorsHold
   pub faults-hold : FaultsHold
   pub misreadings-hold : MisreadingsHold
-  -- Demand 3: isolation under full provenance, of all the rule numbers that mean it. An unrelated owner's slot is protected, and "no endorsed
-  -- block" cannot be dropped.
+  -- Demand 3: isolation under full provenance, of all the rule numbers that mean it. An unrelated owner's slot is protected.
   pub isolated : Isolation
   pub full-rule : FullRules
   pub unrelated-protected : UnrelatedProtected
-  pub endorsed-worked : EndorsedWorked
-  pub endorsed-not-isolated : EndorsedIsolation → ⊥
   -- Document 02, N1: rule numbers
   pub rule-numbers : RuleNumbers
   -- Document 02, N2: the rule ladder and larger budgets; D1 to D26
@@ -77,3 +75,18 @@ pub record Promises : Type 0 where
   -- Document 02, N5: sums and comparisons
   pub wrapping-integers : WrappingIntegers
   pub operations-hold : OperationsHold
+  -- Document 02, N6: endorsement down to floors. Demand 3, wider; its proviso cannot be dropped, for a floor at the adversary or one below it
+  -- (`EndorsedWorked`). Theorems 5 to 7 with endorsed blocks. What is asked of the meet of the labels judged; floors that are ignored; examples
+  pub isolated-down-to-floors : IsolationDownToFloors
+  pub endorsed-worked : EndorsedWorked 1 × EndorsedWorked 0
+  pub floor-worked : FloorWorked
+  pub endorsed-not-isolated : EndorsedIsolation → ⊥
+  pub not-isolated-at-floors : IsolationAtFloors → ⊥
+  pub not-isolated-below-floors : IsolationBelowFloors → ⊥
+  pub provenance-safety-down-to-floors : ProvenanceSafetyDownToFloors
+  pub deputy-safety-down-to-floors : DeputySafetyDownToFloors
+  pub full-deputy-safety-down-to-floors : FullDeputySafetyDownToFloors
+  pub isolation-suffices-down-to-floors : IsolationSufficesDownToFloors
+  pub judged-by-meet : JudgedByMeet
+  pub floors-ignored : FloorsIgnored
+  pub floors-hold : FloorsHold

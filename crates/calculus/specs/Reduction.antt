@@ -24,12 +24,18 @@ pub record Region : Type 0 where
   pub rules : RuleSet
   pub header : Header
 
--- ℓ ≥ O(r), "at or above the owner"; and ρ ≥ O(r), "the region must be at or above the slot's owner"
-abbrev pub Above : Region → Label → ℕ → Type 0
-Above ρ l r = below (ρ .tables .order) (ownerOf (ρ .tables) r) l ≡ true
+-- ℓ ≥ x, "at or above"; and ρ ≥ O(r), "the region must be at or above the slot's owner"
+abbrev pub Above : Region → Label → Label → Type 0
+Above ρ l x = below (ρ .tables .order) x l ≡ true
 
 abbrev pub Covers : Region → ℕ → Type 0
-Covers ρ r = Above ρ (ρ .header .region) r
+Covers ρ r = Above ρ (ρ .header .region) (ownerOf (ρ .tables) r)
+
+-- What the labels judged stand at or above (P says it of a principal): the owner O(r), or where the block is endorsed the floor. "An endorsed
+-- assignment passes .. when the meet of all labels judged stands at or above the slot's owner, or at or above the floor." (document 02, N6)
+pub data Trusts (ρ : Region) (r : ℕ) (P : Label → Type 0) : Type 0 where
+  by-owner : P (ownerOf (ρ .tables) r) → Trusts ρ r P
+  by-floor : ρ .header .endorsed ≡ true → P (ρ .header .floor) → Trusts ρ r P
 
 -- What a semantics asks of a value that an expression gives (C-Val, C-Deref), of the slot that is assigned (A-Assign), and of the labels of
 -- target, value and branch (EP-Assign, FP-Assign)
@@ -44,14 +50,14 @@ asking v r l = record { value = v; slot = r; labels = l }
 -- "Rule 0, access control: the region must be at or above the slot's owner."
 -- "Rule 1, capability: each literal and each read result, intermediate ones too, that is a write view must have an owner at or below the region."
 -- "Rule 2, explicit provenance: rule 0, and unless the block is endorsed the labels of target and value both stand at or above the owner."
--- "Rule 3, full provenance: rule 2 with one more label, that of the branch." EP-Assign asks of the meet
--- of its two labels what is asked here of each. That endorsement lifts what is asked of the branch too is document 01's.
+-- "Rule 3, full provenance: rule 2 with one more label, that of the branch." EP-Assign and document 02, N6 ask of the meet of the labels what is
+-- asked here of each. That an endorsed block is judged otherwise is document 01's; that the branch is one of the labels judged there, N6's.
 unfoldable pub semantics : RuleSet → Region → Semantics
 semantics accessControl ρ = asking (λ v. Unit) (Covers ρ) (λ r l l′ pc. Unit)
 semantics capability ρ = asking (λ v. isWriteView v ≡ true → Covers ρ (viewed v)) (λ r. Unit) (λ r l l′ pc. Unit)
-semantics explicitProvenance ρ = asking (λ v. Unit) (Covers ρ) (λ r l l′ pc. ρ .header .endorsed ≡ false → Above ρ l r × Above ρ l′ r)
+semantics explicitProvenance ρ = asking (λ v. Unit) (Covers ρ) (λ r l l′ pc. Trusts ρ r (λ x. Above ρ l x × Above ρ l′ x))
 semantics fullProvenance ρ =
-    asking (λ v. Unit) (Covers ρ) (λ r l l′ pc. ρ .header .endorsed ≡ false → Above ρ l r × Above ρ l′ r × Above ρ pc r)
+    asking (λ v. Unit) (Covers ρ) (λ r l l′ pc. Trusts ρ r (λ x. Above ρ l x × Above ρ l′ x × Above ρ pc x))
 
 abbrev pub asks : Region → Semantics
 asks ρ = semantics (ρ .rules) ρ

@@ -1,5 +1,5 @@
 -- Document 01, "Finds from the test trench": P1 to P12 as bytes, each with its answer and its output; "01's finds are worked again" (document 02,
--- N3). Assumes nothing.
+-- N3), and P5 with a floor (N6). Assumes nothing.
 use Prim.Native.Nat.{ℕ, _*_, _/_, _%_}
 use mathlib.Core.Path.{_≡_}
 use mathlib.Core.List.{List, [], _∷_, _++_, map}
@@ -55,13 +55,18 @@ read i = 0x11 ∷ 0x10 ∷ reads i
 abbrev pub while : ℕ → List ℕ
 while guard = 0x24 ∷ 0x10 ∷ (bool guard ++ 0x20 ∷ [])
 
--- a block: its region byte and its code
+-- a block: its region byte, its floor byte and its code
 pub record Sent : Type 0 where
   pub region : ℕ
+  pub floor : ℕ
   pub code : List ℕ
 
+abbrev pub floored : ℕ → ℕ → List ℕ → Sent
+floored region floor code = record { region = region; floor = floor; code = code }
+
+-- a floor of 0; where the block is not endorsed nothing of it counts
 abbrev pub block : ℕ → List ℕ → Sent
-block region code = record { region = region; code = code }
+block region code = floored region 0 code
 
 -- a number of two bytes
 abbrev pub twoBytes : ℕ → List ℕ
@@ -75,9 +80,9 @@ abbrev pub codes : List Sent → List ℕ
 codes [] = []
 codes (b ∷ bs) = b .code ++ codes bs
 
--- the programme sheet of some blocks
+-- the programme sheet of some blocks: floors "in a third array of one byte each after the lengths" (document 02, N6)
 abbrev pub sheetOf : List Sent → List ℕ
-sheetOf bs = length bs ∷ (twoBytes (length (codes bs)) ++ map (λ b. b .region) bs ++ lengths bs ++ codes bs)
+sheetOf bs = length bs ∷ (twoBytes (length (codes bs)) ++ map (λ b. b .region) bs ++ lengths bs ++ map (λ b. b .floor) bs ++ codes bs)
 
 -- programmes: no block, one, and two
 abbrev pub none : List ℕ
@@ -85,6 +90,9 @@ none = sheetOf []
 
 abbrev pub one : ℕ → List ℕ → List ℕ
 one region code = sheetOf (block region code ∷ [])
+
+abbrev pub oneDownTo : ℕ → ℕ → List ℕ → List ℕ
+oneDownTo region floor code = sheetOf (floored region floor code ∷ [])
 
 abbrev pub both : ℕ → List ℕ → ℕ → List ℕ → List ℕ
 both region code region′ code′ = sheetOf (block region code ∷ block region′ code′ ∷ [])
@@ -101,9 +109,12 @@ raise = assign (writes 1) (lit (int 9))
 abbrev pub keepView : List ℕ
 keepView = assign (writes 0) (lit (writes 1))
 
--- document 01's example: slot 0 := 42 in region 0; slot 1 := slot 0 in the region given
+-- document 01's example: slot 0 := 42 in region 0; slot 1 := slot 0 in the region given, with the floor given or with 0
+abbrev pub twoDownTo : ℕ → ℕ → List ℕ
+twoDownTo region floor = sheetOf (block 0 (assign (writes 0) (lit (int 42))) ∷ floored region floor copy ∷ [])
+
 abbrev pub two : ℕ → List ℕ
-two region = both 0 (assign (writes 0) (lit (int 42))) region copy
+two region = twoDownTo region 0
 
 -- P9: if slot 0 then slot 1 := 41 else slot 1 := 42
 abbrev pub branches : List ℕ
@@ -127,8 +138,12 @@ vectors =
     ∷ runs 1 10 opening (two 1) (says 0 2 0 2) (int 42 ++ int 42)
     ∷ runs 2 10 opening (two 1) (says 16 1 0 1) blank
     ∷ runs 3 10 opening (two 1) (says 16 1 0 1) blank
-    -- "P5: second region 81, rule 3 finishes."
-    ∷ runs 3 10 opening (two 0x81) (says 0 2 0 2) (int 42 ++ int 42)
+    -- "P5: second region 81, rule 3 finishes."; "For P5, floor 0 still finishes and floor 1 gives 16." (document 02, N6)
+    ∷ runs 3 10 opening (twoDownTo 0x81 0) (says 0 2 0 2) (int 42 ++ int 42)
+    ∷ runs 3 10 opening (twoDownTo 0x81 1) (says 16 1 0 1) blank
+    -- ".. ignored unless the block is endorsed" (document 02, N6): P1 and P4 with floor 255
+    ∷ runs 0 10 opening (twoDownTo 1 255) (says 0 2 0 2) (int 42 ++ int 42)
+    ∷ runs 3 10 opening (twoDownTo 1 255) (says 16 1 0 1) blank
     -- "P6, P7: only block, region 00, slot 1 := 9: rule 0 gives 14, rule 1 gives 15."
     ∷ runs 0 10 opening (one 0 raise) (says 14 0 0 0) blank
     ∷ runs 1 10 opening (one 0 raise) (says 15 0 0 0) blank
@@ -139,6 +154,9 @@ vectors =
     -- gives 16 at offset 8, steps 1"; with payloads of eight bytes at offset 12.
     ∷ runs 2 10 flagged (one 1 branches) (says 0 1 0 2) (bool 1 ++ int 41)
     ∷ runs 3 10 flagged (one 1 branches) (says 16 0 branchAt 1) blank
+    -- "all labels judged" (document 02, N6): P9 in an endorsed block of floor 1. Rule 2 judges no branch.
+    ∷ runs 2 10 flagged (oneDownTo 0x81 1 branches) (says 0 1 0 2) (bool 1 ++ int 41)
+    ∷ runs 3 10 flagged (oneDownTo 0x81 1 branches) (says 16 0 branchAt 1) blank
     -- "P10: k = 0, budget 0: finishes."
     ∷ runs 0 0 opening none (says 0 0 0 0) (int 5 ++ int 7)
     -- "P11: while false do skip: budget 1 finishes, budget 0 gives 17."

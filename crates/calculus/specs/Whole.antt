@@ -1,5 +1,6 @@
--- Source 003, theorem 5, is false over whole runs that have endorsed blocks: the statement, and the example that refutes it. An endorsed
--- block stores a write view, and a later block that is not endorsed writes through it what the adversary chose. Assumes nothing.
+-- Source 003, theorem 5, is false over whole runs that have endorsed blocks, though their floors be out of the adversary's reach: the statement, and
+-- the example that refutes it. An endorsed block stores a write view, and a later block that is not endorsed writes through it what the adversary
+-- chose. Assumes nothing.
 use Prim.Native.Nat.{ℕ, _<_}
 use mathlib.Core.Path.{_≡_}
 use mathlib.Core.Bool.{true, false}
@@ -11,13 +12,13 @@ use Rattle.store.specs.Sheet.{Tables, tablesOf, openingOf, storeSheet}
 use Rattle.programme.specs.Sheet.{headerAt}
 use Rattle.calculus.specs.Calculus.{Store}
 use Rattle.calculus.specs.Run.{FinishedRun}
-use Rattle.calculus.specs.Vectors.{int, bool, writes, assign, lit, read, block, sheetOf}
-use Rattle.calculus.specs.Isolation.{Protected, withinReach, Replacement}
+use Rattle.calculus.specs.Vectors.{int, bool, writes, assign, lit, read, block, floored, sheetOf}
+use Rattle.calculus.specs.Isolation.{Protected, withinReach, FloorsOutOfReach, Replacement}
 use Rattle.calculus.specs.Deputy.{ProtectedSpare, BareBlocksSpare, Prevents}
 
--- theorem 5 with endorsed blocks let in, over whole runs
+-- theorem 5 with endorsed blocks let in, over whole runs: only the others are held to definition 4
 abbrev pub WholeRunSafety : Type 0
-WholeRunSafety = Prevents 2 (λ w adversary s p. ProtectedSpare w adversary s × BareBlocksSpare w adversary p)
+WholeRunSafety = Prevents 2 (λ w adversary s p. ProtectedSpare w adversary s × BareBlocksSpare w adversary p × FloorsOutOfReach w adversary p)
 
 -- The adversary is principal 0, and principal 1 stands above it. Slot 0 is the adversary's own, true; slots 1 and 2 are principal 1's, 7.
 abbrev pub sheet : List ℕ
@@ -33,7 +34,7 @@ slots = openingOf sheet .store
 abbrev pub chooses : ℕ → List ℕ
 chooses x = assign (writes 0) (lit (bool x))
 
--- block 1, in region 1, endorsed: slot 2 := write view of slot 1
+-- block 1, in region 1, endorsed down to principal 1: slot 2 := write view of slot 1
 abbrev pub stores : List ℕ
 stores = assign (writes 2) (lit (writes 1))
 
@@ -46,7 +47,7 @@ abbrev pub obeys : List ℕ
 obeys = 0x23 ∷ (read 0 ++ through 41 ++ through 42)
 
 abbrev pub sent : ℕ → List ℕ
-sent x = sheetOf (block 0 (chooses x) ∷ block 0x81 stores ∷ block 1 obeys ∷ [])
+sent x = sheetOf (block 0 (chooses x) ∷ floored 0x81 1 stores ∷ block 1 obeys ∷ [])
 
 -- what the runs end with where the adversary sends true and where it sends false
 abbrev pub left : List ℕ
@@ -55,8 +56,8 @@ left = bool 1 ++ int 41 ++ writes 1
 abbrev pub right : List ℕ
 right = bool 0 ++ int 42 ++ writes 1
 
--- Theorem 5's conditions hold but that block 1, outside the adversary's reach, is endorsed. Slot 1, protected, opens with 7 and ends with 41
--- or with 42, as the adversary chose.
+-- Theorem 5's conditions hold but that block 1, outside the adversary's reach, is endorsed, and its floor is out of reach. Slot 1, protected, opens with
+-- 7 and ends with 41 or with 42, as the adversary chose.
 pub record WholeWorked : Type 0 where
   pub opens : storeSheet sheet ≡ ok (record { tables = tables; store = slots })
   pub principal : 0 < tables .order .n
@@ -65,6 +66,7 @@ pub record WholeWorked : Type 0 where
   pub blocks-spare : BareBlocksSpare tables 0 (sent 1)
   pub outside : withinReach tables 0 (sent 1) 1 ≡ false
   pub endorsed : headerAt (sent 1) 1 .endorsed ≡ true
+  pub floors : FloorsOutOfReach tables 0 (sent 1)
   pub other : Replacement tables 0 (sent 1) (sent 0)
   pub seven : slotBytes (getD slots 1 emptySlot) ≡ int 7
   pub left-run : FinishedRun 2 sheet (sent 1) left

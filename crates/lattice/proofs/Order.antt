@@ -1,6 +1,6 @@
 -- The laws of a good table: a partial order with meets and a top, and labels held as masks. Assumes nothing.
-use Prim.Native.Nat.{_-_, _^_, _<_}
-use mathlib.Core.Path.{_≡_, sym, _∙_}
+use Prim.Native.Nat.{ℕ, _-_, _^_, _<_}
+use mathlib.Core.Path.{_≡_, sym, ap, _∙_}
 use mathlib.Core.Bool.{true}
 use native.Mathlib.Nat.{lt-of-le-of-lt}
 use lib.Pow.{ones-lt}
@@ -107,6 +107,10 @@ module _ (t : Table) where
 
     pub mask-meet : (i j : Label) → i < t .n → j < t .n → mask t (meet t i j) ≡ bitAnd (mask t i) (mask t j)
     mask-meet i j hi hj = meet-mask g i j _ hi hj (meet-lt i j hi hj) (meet-meets i j hi hj)
+
+    -- who stands at or below the meet stands at or below both, and the other way round
+    pub below-meet : (i j l : Label) → i < t .n → j < t .n → below t l (meet t i j) ≡ below t l i and below t l j
+    below-meet i j l hi hj = ap (λ (m : ℕ). bit m l) (mask-meet i j hi hj) ∙ both-below i j l
 
     top-found : (top t < t .n) × (isTop t (top t) ≡ true)
     unfolding top isTop

@@ -1,6 +1,6 @@
 -- Laws of the tests: from a test to what it says, and back. Assumes nothing.
 use Prim.Native.Nat.{ℕ, zero, suc, _+_, _≤_, _<_}
-use mathlib.Core.Path.{_≡_, refl, sym, ap, subst, _∙_}
+use mathlib.Core.Path.{_≡_, refl, sym, ap, ap₂, subst, _∙_}
 use mathlib.Core.Logic.{_⊎_, inl, inr, ⊎-elim}
 use mathlib.Core.Bool.{Bool, true, false, true≢false, false≢true}
 use native.Mathlib.Nat.{le-of-suc-le-suc, not-suc-le-zero, eq-or-lt-of-le, le-refl, le-antisymm}
@@ -69,6 +69,12 @@ pub every-of : (n : ℕ) (f : ℕ → Bool) → ((k : ℕ) → k < n → f k ≡
 unfolding every
 every-of zero f h = refl
 every-of (suc n) f h = and-of (every n f) (f n) (every-of n f (λ k l. h k (omega arith))) (h n (omega arith))
+
+-- two tests that are equal at every number below n
+pub every-same : (n : ℕ) (f g : ℕ → Bool) → ((i : ℕ) → i < n → f i ≡ g i) → every n f ≡ every n g
+unfolding every
+every-same zero f g h = refl
+every-same (suc n) f g h = ap₂ _and_ (every-same n f g (λ i l. h i (omega arith))) (h n (omega arith))
 
 pub some-at : (n : ℕ) (f : ℕ → Bool) → some n f ≡ true → (k : ℕ) × (k < n) × (f k ≡ true)
 unfolding some

@@ -8,8 +8,8 @@ use Rattle.store.specs.Value.{wellFormed, valueAt, valueBytes, opened, assigned
 use Rattle.store.specs.Signed.{negative, magnitude}
 use Rattle.store.specs.Sheet.{orderOf, tablesOf, openingOf, valueWidthIn, valueGood, sizesAllowed, slotChecked, bodyChecked, sheetChecked, storeSheet, slotsBytes}
 use Rattle.programme.specs.Code.{readValue, exprSorted, exprByte, readLiteral, exprBy, readExpr, sorted, cmdByte, readCmds, readAssign, readSeq, readIf, readWhile, bodyBy, bodyTooDeep, readBody, readBlock}
-use Rattle.programme.specs.Sheet.{headerOf, startOf, headerGood, blockAt, blocksFrom, programmeSheet}
-use Rattle.calculus.specs.Rules.{rulesOf, judgesViews, judgesRegion, labelsJudged, allAbove}
+use Rattle.programme.specs.Sheet.{floorOf, headerOf, startOf, headerGood, blockAt, blocksFrom, programmeSheet}
+use Rattle.calculus.specs.Rules.{rulesOf, judgesViews, judgesRegion, labelsJudged, allAbove, labelsSuffice}
 use Rattle.calculus.specs.Calculus.{inRegion, admit, fetch, eval, judge, authorised, reliable, permit, assignment, counted, written, performed, step, choose, loop, exec, execBody, execs}
 use Rattle.calculus.specs.Blocks.{haltAnswer, runBlocks, start}
 use Rattle.calculus.specs.Run.{runProgramme, runOpened, runUnder, run, answerOf, outputOf}
@@ -26,8 +26,8 @@ unfolding inputs decimalWithin field answerFields answerLine payloadField slotLi
     _>>=_ require refusedAs inTurn unplaced numberAt numberBytes entries filled wellFormed valueAt valueBytes opened assigned emptySlot slotBytes
     orderOf tablesOf openingOf valueWidthIn valueGood sizesAllowed slotChecked bodyChecked sheetChecked storeSheet slotsBytes
     readValue exprSorted exprByte readLiteral exprBy readExpr sorted cmdByte readCmds readAssign readSeq readIf readWhile bodyBy bodyTooDeep readBody readBlock
-    headerOf startOf headerGood blockAt blocksFrom programmeSheet
-    rulesOf judgesViews judgesRegion labelsJudged allAbove inRegion admit fetch eval judge authorised reliable permit assignment
+    floorOf headerOf startOf headerGood blockAt blocksFrom programmeSheet
+    rulesOf judgesViews judgesRegion labelsJudged allAbove labelsSuffice inRegion admit fetch eval judge authorised reliable permit assignment
     counted written performed step choose loop exec execBody execs haltAnswer runBlocks start
 inputs-hold = refl
 

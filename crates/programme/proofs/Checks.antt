@@ -1,4 +1,4 @@
--- Laws of the programme sheet's headers, and of what checking it answers, by the first test that fails. Assumes nothing.
+-- Laws of what checking a programme sheet answers, by the first test that fails. Assumes nothing.
 use Prim.Native.Nat.{ℕ, _+_, _<_, _≤_}
 use mathlib.Core.Path.{_≡_, refl}
 use mathlib.Core.Bool.{true, false}
@@ -6,26 +6,15 @@ use mathlib.Core.List.{List}
 use native.Mathlib.Omega.{arith}
 use lib.ListN.{length}
 use lib.Dec.{eqb}
-use borrow.Author.Tests.{lt-ltb, le-ltb, le-leb, lt-leb, eq-eqb, ne-eqb}
+use borrow.Author.Tests.{le-leb, lt-leb, eq-eqb, ne-eqb}
 use Rattle.lattice.specs.Tests.{_and_, every}
 use Rattle.store.specs.declared.Answer.{Answer}
 use Rattle.store.specs.Result.{Result, refuse, require, unplaced}
 use Rattle.store.specs.Sheet.{sizesWidth}
-use Rattle.programme.specs.declared.Header.{Header}
 use Rattle.programme.specs.Sheet.{Block, mostBlocks, mostCode, kOf, cOf, codeAt, startOf, headerAt, headerGood, blocksFrom, programmeSheet, checkAnswer}
 use Rattle.programme.specs.Rows.{Compiled}
 use Rattle.programme.specs.Reading.{Compiles, CompilesTo}
 use Rattle.programme.proofs.Filled.{kept-self}
-
--- A header's region against n principals.
-module _ (n : ℕ) (h h′ : Header) (e : h ≡ h′) where
-  pub header-fine : h .region < n → headerGood n h′ ≡ true
-  unfolding headerGood
-  header-fine l = rw (← e) (lt-ltb _ _ l)
-
-  pub header-bad : n ≤ h .region → headerGood n h′ ≡ false
-  unfolding headerGood
-  header-bad l = rw (← e) (le-ltb _ _ l)
 
 -- a sheet that is refused before its code is read leaves the tables as they were
 unread : (p : List ℕ) (t : Compiled) (q : Result Answer (List Block)) (a : Answer) → q ≡ refuse a → CompilesTo p q t t a

@@ -20,4 +20,6 @@ pub mod Commands
 pub mod Emission
 pub mod Bodies
 pub mod Blocks
+pub mod Heading
+pub mod Floors
 pub mod Checks

@@ -52,7 +52,7 @@ programmed n m p bs h =
         size = eqb-true _ _ (c .0);
         sum = eqb-true _ _ (e .0);
       };
-      headers = λ i l. ltb-true _ _ (every-at (kOf p) _ (d .0) i l);
+      headers = λ i l. ltb-true _ _ (and-l _ _ (every-at (kOf p) _ (d .0) i l));
       reads = e .1;
     }
 

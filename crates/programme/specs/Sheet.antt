@@ -1,10 +1,10 @@
 -- Document 01, "The programme sheet", with refusals 6 to 10. Assumes nothing.
 use Prim.Native.Nat.{ℕ, zero, suc, _+_, _-_, _*_, _%_}
-use mathlib.Core.Bool.{Bool}
+use mathlib.Core.Bool.{Bool, true, false}
 use mathlib.Core.List.{List, [], _∷_}
 use lib.ListN.{getD, length}
 use lib.Dec.{ltb, leb, eqb}
-use Rattle.lattice.specs.Tests.{_and_, every}
+use Rattle.lattice.specs.Tests.{_and_, _implies_, every}
 use Rattle.store.specs.declared.Answer.{Answer}
 use Rattle.store.specs.Result.{Result, ok, refuse, _>>=_, require, refusedAs, unplaced}
 use Rattle.store.specs.Bytes.{numberAt, part}
@@ -30,22 +30,31 @@ kOf p = numberAt 1 p 0
 abbrev pub cOf : List ℕ → ℕ
 cOf p = numberAt 2 p 1
 
--- "Then two parallel arrays: k regions (1 byte: principal, plus 80 when endorsed) and k block lengths (2 bytes ..). Then the code."
+-- "Then two parallel arrays: k regions (1 byte: principal, plus 80 when endorsed) and k block lengths (2 bytes ..). Then the code." "Every block
+-- gets a floor principal, in a third array of one byte each after the lengths" (document 02, N6)
 abbrev pub endorsedBit : ℕ
 endorsedBit = 0x80
 
+abbrev pub floorsAt : ℕ → ℕ
+floorsAt k = sizesWidth + 3 * k
+
+abbrev pub codeAt : ℕ → ℕ
+codeAt k = sizesWidth + 4 * k
+
+-- "ignored unless the block is endorsed" (document 02, N6): 0 where it is not, whatever the byte
+unfoldable pub floorOf : Bool → ℕ → ℕ
+floorOf true f = f
+floorOf false f = 0
+
 -- `Header` is the struct of src/lib.rt: what a block's entries in the sheet's arrays say, besides its length
-unfoldable pub headerOf : ℕ → Header
-headerOf b = record { region = b % endorsedBit; endorsed = leb endorsedBit b }
+unfoldable pub headerOf : ℕ → ℕ → Header
+headerOf b f = record { region = b % endorsedBit; endorsed = leb endorsedBit b; floor = floorOf (leb endorsedBit b) f }
 
 abbrev pub headerAt : List ℕ → ℕ → Header
-headerAt p i = headerOf (getD p (sizesWidth + i) 0)
+headerAt p i = headerOf (getD p (sizesWidth + i) 0) (getD p (floorsAt (kOf p) + i) 0)
 
 abbrev pub lengthAt : List ℕ → ℕ → ℕ
 lengthAt p i = numberAt 2 p (sizesWidth + kOf p + 2 * i)
-
-abbrev pub codeAt : ℕ → ℕ
-codeAt k = sizesWidth + 3 * k
 
 -- where the i-th block's code starts in the code: the lengths of all blocks before it, added up. It is the running sum of document 02, N4;
 -- what is promised of it stands in Starts.antt
@@ -60,9 +69,9 @@ codeOf p i = part p (codeAt (kOf p) + startOf p i) (lengthAt p i)
 abbrev pub lent : List ℕ → ℕ → ℕ → List ℕ
 lent p from to = part p from (to - from)
 
--- "8 region's principal not below n"
+-- "8 region's principal not below n"; "An endorsed block's floor must be below n, else 8, right after its region." (document 02, N6)
 unfoldable pub headerGood : ℕ → Header → Bool
-headerGood n h = ltb (h .region) n
+headerGood n h = ltb (h .region) n and (h .endorsed implies ltb (h .floor) n)
 
 -- "9 and 10 give block, offset and steps 0 done"
 abbrev pub inBlock : ℕ → Fault → Answer

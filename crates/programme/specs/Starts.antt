@@ -33,7 +33,7 @@ pub record RunningStarts (p : List ℕ) : Type 0 where
 
 -- a worked example: blocks of 1, 4 and 1 bytes (skip; a sequence of two skips; skip)
 abbrev pub three : List ℕ
-three = 3 ∷ 6 ∷ 0 ∷ 0 ∷ 0 ∷ 0 ∷ 1 ∷ 0 ∷ 4 ∷ 0 ∷ 1 ∷ 0 ∷ 0x20 ∷ 0x22 ∷ 2 ∷ 0x20 ∷ 0x20 ∷ 0x20 ∷ []
+three = 3 ∷ 6 ∷ 0 ∷ 0 ∷ 0 ∷ 0 ∷ 1 ∷ 0 ∷ 4 ∷ 0 ∷ 1 ∷ 0 ∷ 0 ∷ 0 ∷ 0 ∷ 0x20 ∷ 0x22 ∷ 2 ∷ 0x20 ∷ 0x20 ∷ 0x20 ∷ []
 
 pub record ThreeWorked : Type 0 where
   pub starts : table 4 (startOf three) ≡ 0 ∷ 1 ∷ 5 ∷ 6 ∷ []

@@ -2,9 +2,8 @@
 ghost use mathlib.Core.Path.{_≡_};
 ghost use Prim.Native.Nat.{_<_, _≤_};
 ghost use lib.ListN.{length};
-ghost use Rattle.lattice.specs.Tests.{every};
 ghost use Rattle.programme.specs.Code.{mostDeep};
-ghost use Rattle.programme.specs.Sheet.{headerOf, headerAt, headerGood, lengthAt, lent, blocksFrom, programmeSheet, checkAnswer, mostBlocks, codeAt};
+ghost use Rattle.programme.specs.Sheet.{lengthAt, lent, blocksFrom, programmeSheet, checkAnswer, mostBlocks};
 ghost use Rattle.programme.specs.Rows.{tablesOf};
 ghost use Rattle.programme.specs.Reading.{spotAt, CanRead, BlockReads, GoodLengths, CompilesTo};
 ghost use Rattle.programme.specs.Starts.{RunningStart};
@@ -13,15 +12,19 @@ use store::Value;
 
 mod code;
 mod expression;
+mod headers;
 mod literal;
 mod reader;
 
+pub use headers::header_of;
 use reader::Reading;
 
 // What a block's entries in the sheet's arrays say, besides its length.
 pub struct Header {
     pub region: usize,
     pub endorsed: bool,
+    // 0 where the block is not endorsed.
+    pub floor: u8,
 }
 
 impl Header {
@@ -38,8 +41,10 @@ pub struct Sizes {
 impl Sizes {
     // The bytes of the sizes.
     pub const WIDTH: usize = 3;
-    // The bytes of a block's entries in the arrays: its region and its length.
-    pub const ENTRIES: usize = 3;
+    // The bytes of a block's entries in the arrays before the floors: its region and its length.
+    pub const FLOORS: usize = 3;
+    // The bytes of all its entries.
+    pub const ENTRIES: usize = Sizes::FLOORS + 1;
 
     pub const MOST_BLOCKS: usize = 64;
 
@@ -120,33 +125,6 @@ pub type Rows = [[u16; Row::WIDTH]; Row::MOST];
 pub type Operands = [[u8; Operand::WIDTH]; Operand::MOST];
 
 pub type Payloads = [u64; Operand::MOST];
-
-// A block's header from its region byte.
-pub fn header_of(b: u8) -> Header
-    ensures { λ r. ⌜ r ≡ headerOf b ⌝ }
-{
-    let region = (b % Header::ENDORSED) as usize;
-    Header {
-        region,
-        endorsed: Header::ENDORSED <= b,
-    }
-}
-
-// Whether every block's region is a principal.
-fn headers_good(sheet: &[u8], k: usize, n: usize) -> bool
-    requires { ⌜ codeAt k ≤ length (now sheet) ⌝ }
-    ensures { λ r. ⌜ r ≡ every k (λ i. headerGood n (headerAt (now (sheet .entry)) i)) ⌝ }
-{
-    let mut i = 0;
-    while i < k {
-        let header = header_of(sheet[Sizes::WIDTH + i]);
-        if n <= header.region {
-            return false;
-        }
-        i += 1;
-    }
-    true
-}
 
 // The length of block i; for i not below k, what stands there. Bytes past the sheet's end are 0. As i has one byte, no place overflows.
 fn length_at(sheet: &[u8], i: u8) -> usize
@@ -287,7 +265,7 @@ pub fn compile(
     if sheet.len() != Sizes::WIDTH + Sizes::ENTRIES * k + c {
         return store::unplaced(Answer::PROGRAMME_LENGTH);
     }
-    if !headers_good(sheet, k, n) {
+    if !headers::headers_good(sheet, k, n) {
         return store::unplaced(Answer::REGION);
     }
     if lengths_sum(sheet, k) != c {

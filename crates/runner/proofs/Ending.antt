@@ -7,14 +7,14 @@ use lib.ListN.{length, getD}
 use Rattle.store.specs.declared.Opened.{Opened}
 use Rattle.store.specs.Result.{Result, ok, refuse, _>>=_, refusedAs}
 use Rattle.store.specs.Value.{Slot, emptySlot, slotWidth, slotBytes, valueBytes}
-use Rattle.store.specs.Sheet.{Tables, Opening, ownerOf, mostSlots, sizesWidth, slotsBytes}
+use Rattle.store.specs.Sheet.{Tables, Opening, ownerOf, mostSlots, slotsBytes}
 use Rattle.store.specs.Held.{openedOf, heldOf, rowOf, rowBytes, rowsBytes, fitting, outAfter}
 use Rattle.store.proofs.Result.{not-both}
 use Rattle.store.proofs.Fill.{table-at}
 use Rattle.store.proofs.Written.{length-rows, sets-whole}
 use Rattle.programme.specs.Syntax.{Cmd}
 use Rattle.programme.specs.Code.{readBlock}
-use Rattle.programme.specs.Sheet.{Block, kOf, headerAt, codeOf, inBlock, blockAt, blocksFrom}
+use Rattle.programme.specs.Sheet.{Block, kOf, codeAt, headerAt, codeOf, inBlock, blockAt, blocksFrom}
 use Rattle.programme.specs.Rows.{Compiled}
 use Rattle.programme.proofs.Starts.{programmed}
 use Rattle.calculus.specs.Rules.{RuleSet}
@@ -148,7 +148,7 @@ module _ (o : Opening) (t : Opened) (held : List (List ℕ)) (h : OpeningHeld o 
         means = refl;
       }
 
-  pub sheet-room : sizesWidth + kOf p ≤ length p
+  pub sheet-room : codeAt (kOf p) ≤ length p
   sheet-room = let y = programmed _ _ p bs (x .sheet) in omega (arith, y .lengths .size)
 
 -- What the end of the blocks says of the run, for whatever opening and programme stand behind
@@ -166,6 +166,7 @@ module _ (t : Opened) (j : Judges) (budget : ℕ) (p : List ℕ) (tables : Compi
         under = all-under o t held (s .opening-held) j (s .rules) (s .judges) p by (c .blocks) (c .taken) refl refl;
         whole = _;
         left = left-all o t held (s .opening-held) j (s .rules) (s .judges) p by (c .blocks) (c .taken) refl refl k q;
+        count = q;
         sheet = rw q (sheet-room o t held (s .opening-held) j (s .rules) (s .judges) p by (c .blocks) (c .taken) refl refl);
       }
 

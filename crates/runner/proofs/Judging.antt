@@ -1,24 +1,27 @@
 -- Laws of guards and assignments, as the code finds their answers. Assumes nothing.
-use Prim.Native.Nat.{ℕ, _<_}
-use mathlib.Core.Path.{_≡_, refl, sym, _∙_}
+use Prim.Native.Nat.{ℕ, _^_, _<_}
+use mathlib.Core.Path.{_≡_, refl, sym, ap, _∙_}
 use mathlib.Core.Bool.{Bool, true, false, true≢false, false≢true}
 use mathlib.Core.List.{List, [], _∷_}
+use native.Mathlib.Omega.{arith}
 use lib.Dec.{eqb}
 use lib.Bits.{bitAnd}
 use borrow.Author.Tests.{eq-eqb, ne-eqb, eqb-true}
 use Rattle.lattice.specs.Tests.{_and_, _or_, _implies_}
+use Rattle.lattice.specs.declared.Table.{Table}
 use Rattle.lattice.specs.Order.{Label, bit}
-use Rattle.lattice.proofs.Bits.{bit-and}
+use Rattle.lattice.proofs.Bits.{bit-and, bit-past}
 use Rattle.store.specs.Result.{Result, ok, refuse, _>>=_, require}
 use Rattle.store.specs.Value.{truth, writeView, isWriteView}
 use Rattle.store.specs.Sheet.{ownerOf, mostSlots}
 use Rattle.store.proofs.Result.{Post, Any, post-ok, post-all, post-require, post-at, post-bind}
 use Rattle.programme.specs.Syntax.{Expr}
-use Rattle.calculus.specs.Rules.{RuleSet, accessControl, capability, explicitProvenance, fullProvenance, labelsJudged, allAbove}
+use Rattle.calculus.specs.Rules.{RuleSet, accessControl, capability, explicitProvenance, fullProvenance, labelsJudged, allAbove, labelsSuffice}
+use Rattle.calculus.proofs.Suffices.{by-owner, none-judged}
 use Rattle.calculus.specs.Calculus.{Setting, Store, Labelled, authorised, reliable, eval, judge, permit, assignment}
 use Rattle.runner.specs.Answers.{Got, Judging, judgingBy, judging, Making}
 use Rattle.runner.specs.declared.rules.Terms.{Terms}
-use Rattle.runner.specs.Held.{LabelHeld, judgesLabels, judgesBranch, Serves, ValueHeld, EvaluatedAs, JudgedAs, MadeAs}
+use Rattle.runner.specs.Held.{LabelHeld, judgesLabels, judgesBranch, floorHeld, Serves, ValueHeld, EvaluatedAs, JudgedAs, MadeAs}
 use Rattle.runner.specs.Evaluating.{aimed}
 use Rattle.runner.proofs.Labels.{bit-held, bits-held}
 use Rattle.runner.proofs.Admission.{in-region}
@@ -59,37 +62,41 @@ unfolding _and_
 all-three true b c = all-two b c
 all-three false b c = refl
 
-or-true : (a : Bool) → true ≡ (a or true)
-unfolding _or_
-or-true true = refl
-or-true false = refl
+-- who stands at or below the meet of two labels that are judged, and of three
+module _ (t : Table) (r : RuleSet) (x y b : Label) (m n c : ℕ) (tx : LabelHeld t x m) (ly : LabelHeld t y n) (cb : LabelHeld t b c) (o : Label) where
+  pub meet-two : judgesLabels r ≡ true → judgesBranch r ≡ false → bit (bitAnd m n) o ≡ allAbove t o (labelsJudged r x y b)
+  unfolding allAbove
+  meet-two p q = rw (labels-two x y b r p q) (bits-held t tx ly o ∙ all-two _ _)
+
+  pub meet-three : judgesBranch r ≡ true → bit (bitAnd (bitAnd m n) c) o ≡ allAbove t o (labelsJudged r x y b)
+  unfolding allAbove
+  meet-three q = rw (labels-three x y b r q) (bit-and (bitAnd m n) c o ∙ rw (bits-held t tx ly o, bit-held t cb o) (all-three _ _ _))
 
 module _ (w : Setting) (terms : Terms) (masks : List ℕ) (h : Serves w terms masks) where
-  -- refusal 16: the block is endorsed, no label is judged, two are, three are
+  -- refusal 16: no label is judged; else by the owner, or by the floor
   module _ (i : ℕ) (x y b : Label) where
-    pub reliable-endorsed : terms .endorsed ≡ true → true ≡ reliable w i (labelsJudged (w .rules) x y b)
-    unfolding reliable _or_
-    reliable-endorsed q = rw (sym (h .endorsed) ∙ q) refl
-
     pub reliable-unjudged : terms .labels ≡ false → true ≡ reliable w i (labelsJudged (w .rules) x y b)
-    unfolding reliable allAbove
-    reliable-unjudged q = rw (labels-none x y b (w .rules) (sym (h .labels) ∙ q)) (or-true (w .header .endorsed))
+    unfolding reliable
+    reliable-unjudged q = rw (labels-none x y b (w .rules) (sym (h .labels) ∙ q)) (sym (none-judged _ _ _))
 
-    module _ (o t l c : ℕ) (n : terms .endorsed ≡ false) (q : ownerOf (w .tables) i ≡ o) (tx : LabelHeld (w .tables .order) x t)
-        (ly : LabelHeld (w .tables .order) y l) (cb : LabelHeld (w .tables .order) b c) where
-      pub reliable-two : terms .labels ≡ true → terms .branches ≡ false → bit (bitAnd t l) o ≡ reliable w i (labelsJudged (w .rules) x y b)
-      unfolding reliable allAbove _or_
-      reliable-two p p′ =
-          rw (labels-two x y b (w .rules) (sym (h .labels) ∙ p) (sym (h .branches) ∙ p′), sym (h .endorsed) ∙ n, ← q)
-          (bits-held (w .tables .order) tx ly (ownerOf (w .tables) i) ∙ all-two _ _)
+    -- j is the meet, as a mask
+    module _ (o j : ℕ) (q : ownerOf (w .tables) i ≡ o) (is : (z : Label) → bit j z ≡ allAbove (w .tables .order) z (labelsJudged (w .rules) x y b)) where
+      pub reliable-owner : bit j o ≡ true → true ≡ reliable w i (labelsJudged (w .rules) x y b)
+      unfolding reliable
+      reliable-owner e = sym (by-owner _ _ _ _ (sym (is (ownerOf (w .tables) i)) ∙ ap (bit j) q ∙ e))
 
-      pub reliable-three : terms .branches ≡ true → bit (bitAnd (bitAnd t l) c) o ≡ reliable w i (labelsJudged (w .rules) x y b)
-      unfolding reliable allAbove _or_
-      reliable-three p =
-          let j = ownerOf (w .tables) i in
-          rw (labels-three x y b (w .rules) (sym (h .branches) ∙ p), sym (h .endorsed) ∙ n, ← q)
-          (bit-and (bitAnd t l) c j
-          ∙ rw (bits-held (w .tables .order) tx ly j, bit-held (w .tables .order) cb j) (all-three _ _ _))
+      owner-low : bit j o ≡ false → allAbove (w .tables .order) (ownerOf (w .tables) i) (labelsJudged (w .rules) x y b) ≡ false
+      owner-low e = sym (is (ownerOf (w .tables) i)) ∙ ap (bit j) q ∙ e
+
+      -- the floor as it is held: the meet has the bit of an endorsed block's, and of no other
+      held-floor : j < 2 ^ 32 → (n : Bool) (f : Label) → bit j (floorHeld n f) ≡ n and allAbove (w .tables .order) f (labelsJudged (w .rules) x y b)
+      unfolding floorHeld _and_
+      held-floor l true f = is f
+      held-floor l false f = bit-past 32 j 32 l (omega arith)
+
+      pub reliable-floor : j < 2 ^ 32 → bit j o ≡ false → bit j (terms .floor) ≡ reliable w i (labelsJudged (w .rules) x y b)
+      unfolding reliable labelsSuffice _or_
+      reliable-floor l e = rw (owner-low e) (ap (bit j) (h .floor) ∙ held-floor l (w .header .endorsed) (w .header .floor))
 
   -- refusal 14: the region is not judged, it is
   module _ (i : ℕ) where

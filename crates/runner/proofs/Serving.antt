@@ -1,6 +1,6 @@
 -- Laws of what a block runs under: what its rule set judges, and its terms. Assumes nothing.
 use Prim.Native.Nat.{ℕ, _-_, _^_, _<_, min}
-use mathlib.Core.Path.{_≡_, sym, ap, _∙_}
+use mathlib.Core.Path.{_≡_, refl, sym, ap, _∙_}
 use mathlib.Core.Bool.{Bool, true, false}
 use native.Mathlib.Omega.{arith}
 use lib.ListN.{getD}
@@ -12,7 +12,7 @@ use Rattle.programme.specs.declared.Header.{Header}
 use Rattle.calculus.specs.Rules.{rulesOf, judgesViews, judgesRegion}
 use Rattle.calculus.specs.Calculus.{Setting}
 use Rattle.runner.specs.declared.rules.Judges.{Judges}
-use Rattle.runner.specs.Held.{judgesLabels, judgesBranch, Serves}
+use Rattle.runner.specs.Held.{judgesLabels, judgesBranch, floorHeld, Serves}
 use Rattle.runner.specs.Playing.{judgesOf, Under}
 
 -- What the rule set of a rule number judges
@@ -44,14 +44,23 @@ module _ (rule : ℕ) where
   unfolding judgesOf rulesOf
   judges-none a b c d e = rw (rulesOf, ne-eqb rule 0 a, ne-eqb rule 1 b, ne-eqb rule 2 c, ne-eqb rule 3 d, ne-eqb rule 255 e)
 
+-- a floor as it is held: where the block is endorsed, and where it is not
+pub floor-endorsed : (e : Bool) (f : ℕ) → e ≡ true → f ≡ floorHeld e f
+unfolding floorHeld
+floor-endorsed e f h = rw h refl
+
+pub floor-bare : (e : Bool) (f : ℕ) → e ≡ false → mostPrincipals ≡ floorHeld e f
+unfolding floorHeld
+floor-bare e f h = rw h refl
+
 -- a block's terms serve its setting
-pub serves-under : (w : Setting) (t : Table) (j : Judges) (h : Header) (region full : ℕ) → Under w t j h
-    → region ≡ getD (t .masks) (h .region) 0 → full ≡ 2 ^ min mostPrincipals (t .n) - 1
+pub serves-under : (w : Setting) (t : Table) (j : Judges) (h : Header) (region full floor : ℕ) → Under w t j h
+    → floor ≡ floorHeld (h .endorsed) (h .floor) → region ≡ getD (t .masks) (h .region) 0 → full ≡ 2 ^ min mostPrincipals (t .n) - 1
     → Serves w
-    (record { views = j .views; regions = j .regions; labels = j .labels; branches = j .branches; endorsed = h .endorsed; region = region; top = full })
+    (record { views = j .views; regions = j .regions; labels = j .labels; branches = j .branches; floor = floor; region = region; top = full })
     (t .masks)
 unfolding judgesOf
-serves-under w t j h region full u p q =
+serves-under w t j h region full floor u f p q =
     let g = good-at (w .tables .order) (u .grounds .table) in
     let n : min mostPrincipals (t .n) ≡ w .tables .order .n = omega (arith, g .few, ap (λ (x : Table). x .n) (u .order)) in
     record {
@@ -59,7 +68,7 @@ serves-under w t j h region full u p q =
       masks = ap (λ (x : Table). x .masks) (u .order);
       region = record { inside = rw (← u .header, u .order) (u .region); same = rw (← u .header, u .order) p };
       top = record { inside = top-lt (w .tables .order) (u .grounds .table); same = q ∙ ap (λ (x : ℕ). 2 ^ x - 1) n ∙ sym (mask-top (w .tables .order) (u .grounds .table)) };
-      endorsed = ap (λ (x : Header). x .endorsed) (u .header);
+      floor = f ∙ ap (λ (x : Header). floorHeld (x .endorsed) (x .floor)) (u .header);
       views = ap (λ (x : Judges). x .views) (u .judges);
       regions = ap (λ (x : Judges). x .regions) (u .judges);
       labels = ap (λ (x : Judges). x .labels) (u .judges);

@@ -4,7 +4,8 @@ use mathlib.Core.Path.{_≡_}
 use mathlib.Core.Bool.{Bool, true}
 use mathlib.Core.List.{List, [], _∷_}
 use lib.ListN.{getD}
-use Rattle.lattice.specs.Order.{Label}
+use Rattle.lattice.specs.declared.Table.{Table}
+use Rattle.lattice.specs.Order.{Label, bit}
 use Rattle.store.specs.Result.{Result}
 use Rattle.store.specs.declared.Value.{Value}
 use Rattle.store.specs.Value.{wellFormed, emptySlot}
@@ -12,11 +13,11 @@ use Rattle.store.specs.Sheet.{Tables, ownerOf, mostSlots}
 use Rattle.store.specs.Held.{rowOf}
 use Rattle.programme.specs.Syntax.{Op, Expr, literal}
 use Rattle.programme.specs.Rows.{moreCome, byteOf}
-use Rattle.calculus.specs.Rules.{labelsJudged}
+use Rattle.calculus.specs.Rules.{RuleSet, labelsJudged, allAbove}
 use Rattle.calculus.specs.Calculus.{Setting, Store, Labelled, Write, mayHold, eval, judge, permit, assignment, reliable, written}
 use Rattle.runner.specs.declared.rules.Terms.{Terms}
 use Rattle.runner.specs.Answers.{Got, Judging, Making}
-use Rattle.runner.specs.Held.{LabelHeld, Serves, StoreHeld, ValueHeld, EvaluatedAs, JudgedAs, MadeAs}
+use Rattle.runner.specs.Held.{LabelHeld, judgesLabels, judgesBranch, Serves, StoreHeld, ValueHeld, EvaluatedAs, JudgedAs, MadeAs}
 use Rattle.runner.specs.Running.{Operands, ExprAt}
 use Rattle.runner.specs.Evaluating.{LiteralAt, readTimes, gotOperated, aimed, Evals}
 
@@ -104,6 +105,13 @@ Aims g t o r = (w : Setting) (s : Store) (e : Expr) → Behind g w s → ExprAt 
 -- a guard is judged
 abbrev pub JudgesGuard : Grounds → Operands → ℕ → Judging → Type 0
 JudgesGuard g t o r = (w : Setting) (s : Store) (e : Expr) → Behind g w s → ExprAt t o e → JudgedAs (w .tables .order) r (judge w s e)
+
+-- the meet of the labels that are judged, as a mask: who stands at or below it
+abbrev pub MeetsJudged : Bool → ℕ → ℕ → ℕ → ℕ → Type 0
+MeetsJudged branches target value branch r =
+    (t : Table) (rules : RuleSet) (x y b : Label) → judgesLabels rules ≡ true → branches ≡ judgesBranch rules
+    → LabelHeld t x target → LabelHeld t y value → LabelHeld t b branch
+    → (o : Label) → bit r o ≡ allAbove t o (labelsJudged rules x y b)
 
 -- refusal 16's test
 abbrev pub Relies : Terms → ℕ → ℕ → ℕ → ℕ → Bool → Type 0

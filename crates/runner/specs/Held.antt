@@ -5,7 +5,7 @@ use mathlib.Core.Bool.{Bool, true, false}
 use mathlib.Core.List.{List}
 use lib.ListN.{length}
 use Rattle.lattice.specs.declared.Table.{Table}
-use Rattle.lattice.specs.Order.{Label, mask, top}
+use Rattle.lattice.specs.Order.{Label, mostPrincipals, mask, top}
 use Rattle.store.specs.Result.{Result, ok, refuse}
 use Rattle.store.specs.Value.{wellFormed}
 use Rattle.store.specs.Sheet.{Tables, ownerOf, mostSlots}
@@ -33,13 +33,18 @@ judgesBranch capability = false
 judgesBranch explicitProvenance = false
 judgesBranch fullProvenance = true
 
+-- a floor: that of an endorsed block; of any other a number that is no principal's, and so stands at or below no label
+unfoldable pub floorHeld : Bool → ℕ → ℕ
+floorHeld true f = f
+floorHeld false f = mostPrincipals
+
 -- what a block runs under, as the machine holds it
 pub record Serves (w : Setting) (t : Terms) (held : List ℕ) : Type 0 where
   pub grounds : Ordered (w .tables)
   pub masks : w .tables .order .masks ≡ held
   pub region : LabelHeld (w .tables .order) (w .header .region) (t .region)
   pub top : LabelHeld (w .tables .order) (top (w .tables .order)) (t .top)
-  pub endorsed : t .endorsed ≡ w .header .endorsed
+  pub floor : t .floor ≡ floorHeld (w .header .endorsed) (w .header .floor)
   pub views : t .views ≡ judgesViews (w .rules)
   pub regions : t .regions ≡ judgesRegion (w .rules)
   pub labels : t .labels ≡ judgesLabels (w .rules)

@@ -7,11 +7,11 @@ use lib.ListN.{length}
 use Rattle.lattice.specs.declared.Table.{Table}
 use Rattle.lattice.specs.Order.{top}
 use Rattle.store.specs.Result.{Result, ok, refuse}
-use Rattle.store.specs.Sheet.{Tables, sizesWidth}
+use Rattle.store.specs.Sheet.{Tables}
 use Rattle.store.specs.Held.{Ordered}
 use Rattle.programme.specs.declared.Header.{Header}
 use Rattle.programme.specs.Syntax.{Cmd}
-use Rattle.programme.specs.Sheet.{Block, headerAt}
+use Rattle.programme.specs.Sheet.{Block, kOf, codeAt, headerAt}
 use Rattle.programme.specs.Rows.{Compiled, size}
 use Rattle.calculus.specs.Rules.{RuleSet, judgesViews, judgesRegion}
 use Rattle.calculus.specs.Calculus.{Setting, State, Stop, exec}
@@ -131,4 +131,5 @@ pub record CanPlayOn (g : Played) (p : List ℕ) (k : ℕ) (from : Place) (held 
   pub under : AllUnder tables rules g
   pub whole : Result Halt State
   pub left : LeftToPlay tables rules g p k from held whole
-  pub sheet : sizesWidth + k ≤ length p
+  pub count : k ≡ kOf p
+  pub sheet : codeAt k ≤ length p

@@ -104,7 +104,8 @@ pub(crate) fn play_blocks(
     let mut row = from.row;
     let mut steps = from.steps;
     while block < k {
-        let header = programme::header_of(sheet[Sizes::WIDTH + block]);
+        let at = Sizes::WIDTH + block;
+        let header = programme::header_of(sheet[at], sheet[at + Sizes::FLOORS * k]);
         match play_block(
             rows,
             operands,

@@ -3,12 +3,13 @@ ghost use mathlib.Core.Path.{_≡_};
 ghost use Prim.Native.Nat.{_<_};
 ghost use Rattle.lattice.specs.Order.{mostPrincipals};
 ghost use Rattle.calculus.specs.Rules.{rulesOf};
+ghost use Rattle.runner.specs.Held.{floorHeld};
 ghost use Rattle.runner.specs.Playing.{judgesOf, Served};
 use lattice::Table;
 use programme::Header;
 use programme::Row;
 
-// What a block runs under: what its rule set judges, its region's and the top's masks.
+// What a block runs under: what its rule set judges, its endorsement, its region's and the top's masks.
 pub struct Terms {
     // Write views, wherever they turn up (rule 1).
     pub views: bool,
@@ -18,9 +19,15 @@ pub struct Terms {
     pub labels: bool,
     // The branch's label too (rule 3).
     pub branches: bool,
-    pub endorsed: bool,
+    // The floor of an endorsed block; of any other a number that is no principal's.
+    pub floor: u8,
     pub region: u32,
     pub top: u32,
+}
+
+impl Terms {
+    // Stands at or below no label.
+    pub const NO_FLOOR: u8 = Table::MOST as u8;
 }
 
 // A branch label for each depth.
@@ -105,6 +112,16 @@ pub(crate) fn judges_of(rule: u32) -> Judges
     }
 }
 
+// A floor as it is held.
+fn floor_of(endorsed: bool, floor: u8) -> u8
+    ensures { λ r. ⌜ r ≡ floorHeld endorsed floor ⌝ }
+{
+    if endorsed {
+        return floor;
+    }
+    Terms::NO_FLOOR
+}
+
 // What a block runs under.
 pub(crate) fn terms_of(table: Table, judges: Judges, header: Header) -> Terms
     requires { ⌜ header .region < mostPrincipals ⌝ }
@@ -115,12 +132,13 @@ pub(crate) fn terms_of(table: Table, judges: Judges, header: Header) -> Terms
     let region = header.region;
     let mask = masks[region];
     let top = lattice::top_mask(n);
+    let floor = floor_of(header.endorsed, header.floor);
     Terms {
         views: judges.views,
         regions: judges.regions,
         labels: judges.labels,
         branches: judges.branches,
-        endorsed: header.endorsed,
+        floor,
         region: mask,
         top,
     }

@@ -3,7 +3,7 @@ ghost use mathlib.Core.Path.{_≡_};
 ghost use Prim.Native.Nat.{_<_};
 ghost use Rattle.store.specs.Sheet.{mostSlots};
 ghost use Rattle.runner.specs.Answers.{Judging, judging, Making, making};
-ghost use Rattle.runner.specs.Contracts.{grounds, bothTables, CanJudge, SomeExpr, JudgesGuard, Relies, Permits, JudgesAssignment};
+ghost use Rattle.runner.specs.Contracts.{grounds, bothTables, CanJudge, SomeExpr, JudgesGuard, MeetsJudged, Relies, Permits, JudgesAssignment};
 use super::expressions;
 use super::rules::Terms;
 use super::slots;
@@ -71,24 +71,31 @@ pub(crate) fn judge(
     }
 }
 
-// Whether the labels that the rule set judges stand at or above the owner (16).
+// The meet of the labels that are judged where any are: target and value, under rule 3 the branch too.
+fn meet_judged(branches: bool, target: u32, value: u32, branch: u32) -> u32
+    ensures { λ r. ⌜ MeetsJudged branches target value branch r ⌝ }
+{
+    let both = target & value;
+    if branches {
+        return both & branch;
+    }
+    both
+}
+
+// Whether the labels that the rule set judges stand at or above the owner, or where the block is endorsed at or above its floor (16).
 fn reliable(terms: Terms, owner: u64, target: u32, value: u32, branch: u32) -> bool
     ensures { λ r. ⌜ Relies terms owner target value branch r ⌝ }
 {
-    let endorsed = terms.endorsed;
     let labels = terms.labels;
-    let branches = terms.branches;
-    if endorsed {
-        return true;
-    }
+    let floor = terms.floor;
     if !labels {
         return true;
     }
-    let both = target & value;
-    if branches {
-        return lattice::has_bit(both & branch, owner as usize);
+    let judged = meet_judged(terms.branches, target, value, branch);
+    if lattice::has_bit(judged, owner as usize) {
+        return true;
     }
-    lattice::has_bit(both, owner as usize)
+    lattice::has_bit(judged, floor as usize)
 }
 
 fn refused_write(number: u32) -> Made

@@ -5,11 +5,15 @@
 //! and minds the rules as far as its care goes: with all of it a programme
 //! finishes under every rule, with less some step is forbidden.
 
+mod bounds;
+mod endorsements;
 mod expressions;
 mod large;
 mod loops;
 
-use crate::code::{Block, Command};
+pub use self::endorsements::any_byte;
+
+use crate::code::{Block, Command, Endorsement};
 use crate::expressions::Expression;
 use crate::random::Random;
 use crate::rehearsal::Rehearsal;
@@ -59,7 +63,7 @@ pub struct Author<'a> {
     stage: Rehearsal<'a>,
     care: Care,
     region: u8,
-    endorsed: bool,
+    endorsement: Endorsement,
     /// How deep expressions may be.
     most_depth: usize,
 }
@@ -68,13 +72,10 @@ impl<'a> Author<'a> {
     pub fn new(random: &'a mut Random, store: &'a Store, care: Care) -> Author<'a> {
         Author {
             random,
-            stage: Rehearsal {
-                table: &store.table,
-                values: store.values.clone(),
-            },
+            stage: store.stage(),
             care,
             region: 0,
-            endorsed: false,
+            endorsement: Endorsement::Absent { ignored: 0 },
             most_depth: Expression::MOST_DEPTH,
         }
     }
@@ -111,9 +112,9 @@ impl<'a> Author<'a> {
     }
 
     pub fn any_block(&mut self) -> Block {
-        let endorsed = self.random.one_in(4);
         let region = self.any_region();
-        self.block(region, endorsed)
+        let endorsement = self.any_endorsement(region, 4);
+        self.block(region, endorsement)
     }
 
     /// Often a region that may write some slot.
@@ -126,15 +127,15 @@ impl<'a> Author<'a> {
         }
     }
 
-    pub fn block(&mut self, region: u8, endorsed: bool) -> Block {
+    pub fn block(&mut self, region: u8, endorsement: Endorsement) -> Block {
         let depth = self.random.below(5);
-        self.block_of_depth(region, endorsed, depth)
+        self.block_of_depth(region, endorsement, depth)
     }
 
     /// A block whose own commands nest about this deep.
-    pub fn block_of_depth(&mut self, region: u8, endorsed: bool, depth: usize) -> Block {
+    pub fn block_of_depth(&mut self, region: u8, endorsement: Endorsement, depth: usize) -> Block {
         self.region = region;
-        self.endorsed = endorsed;
+        self.endorsement = endorsement;
         let top = self.stage.table.lattice.top();
         let command = if depth > 0 && self.random.percent(60) {
             self.sequence(depth - 1, top)
@@ -143,7 +144,7 @@ impl<'a> Author<'a> {
         };
         Block {
             region,
-            endorsed,
+            endorsement,
             command,
         }
     }
@@ -166,6 +167,9 @@ impl<'a> Author<'a> {
     }
 
     fn sequence(&mut self, depth: usize, branch: u8) -> Command {
+        if let Some(planted) = self.planted(branch) {
+            return planted;
+        }
         let count = self.random.between(2, 4);
         Command::Sequence((0..count).map(|_| self.command(depth, branch)).collect())
     }
@@ -174,9 +178,9 @@ impl<'a> Author<'a> {
         let Some(slot) = self.writable(branch) else {
             return self.without_slot();
         };
-        let floor = self.floor(slot);
-        let target = self.target(slot, floor);
-        let value = self.value_for(slot, floor);
+        let [for_target, for_value] = self.bounds(slot, branch);
+        let target = self.target(slot, for_target);
+        let value = self.value_for(slot, for_value);
         self.played(Command::Assign { target, value })
     }
 
@@ -220,24 +224,6 @@ impl<'a> Author<'a> {
             Some((_, label)) => self.stage.table.lattice.meet(branch, label),
             None => branch,
         }
-    }
-
-    /// A slot that the region may write, under this branch label too.
-    fn writable(&mut self, branch: u8) -> Option<u8> {
-        let by_region = self.minds(self.care.authority);
-        let by_branch = self.minds(self.care.branches) && !self.endorsed;
-        let (table, region) = (self.stage.table, self.region);
-        let below = |slot, upper| table.lattice.at_or_below(table.owner(slot), upper);
-        let slots = slots_where(&self.stage.values, |slot, _| {
-            (!by_region || below(slot, region)) && (!by_branch || below(slot, branch))
-        });
-        self.random.pick_any(&slots)
-    }
-
-    /// The owner that labels must reach for this slot, where that is minded.
-    fn floor(&mut self, slot: u8) -> Option<u8> {
-        let minded = self.minds(self.care.labels) && !self.endorsed;
-        minded.then(|| self.stage.table.owner(slot))
     }
 }
 

@@ -104,23 +104,70 @@ impl Command {
     }
 }
 
+/// Whether a block is endorsed. "Every block gets a floor principal [...] ignored
+/// unless the block is endorsed." (document 02, N6)
+#[derive(Debug, Clone, Copy, PartialEq, Eq)]
+pub enum Endorsement {
+    /// Endorsed, with this floor.
+    DownTo(u8),
+    /// Not endorsed, with this byte where a floor would stand. It means nothing.
+    Absent { ignored: u8 },
+}
+
+impl Endorsement {
+    /// What is added to the region of an endorsed block.
+    pub const MARK: u8 = 0x80;
+
+    /// What these bytes of a block say.
+    pub fn in_bytes(region: u8, floor: u8) -> Endorsement {
+        match region >= Endorsement::MARK {
+            true => Endorsement::DownTo(floor),
+            false => Endorsement::Absent { ignored: floor },
+        }
+    }
+
+    /// The floor, if the block is endorsed.
+    pub fn floor(self) -> Option<u8> {
+        match self {
+            Endorsement::DownTo(floor) => Some(floor),
+            Endorsement::Absent { .. } => None,
+        }
+    }
+
+    /// The byte among the floors.
+    pub fn floor_byte(self) -> u8 {
+        match self {
+            Endorsement::DownTo(floor) => floor,
+            Endorsement::Absent { ignored } => ignored,
+        }
+    }
+}
+
 #[derive(Debug, Clone, PartialEq, Eq)]
 pub struct Block {
     pub region: u8,
-    pub endorsed: bool,
+    pub endorsement: Endorsement,
     pub command: Command,
 }
 
 impl Block {
     pub const MOST: usize = 64;
     pub const MOST_CODE: usize = 16_384;
-    pub const ENDORSED: u8 = 0x80;
+
+    /// A block that is not endorsed.
+    #[cfg(test)]
+    pub fn plain(region: u8, command: Command) -> Block {
+        Block {
+            region,
+            endorsement: Endorsement::Absent { ignored: 0xFF },
+            command,
+        }
+    }
 
     fn region_byte(&self) -> u8 {
-        if self.endorsed {
-            self.region | Block::ENDORSED
-        } else {
-            self.region
+        match self.endorsement {
+            Endorsement::DownTo(_) => self.region | Endorsement::MARK,
+            Endorsement::Absent { .. } => self.region,
         }
     }
 }
@@ -128,6 +175,8 @@ impl Block {
 /// The sheet of these blocks, of which there are at most 255.
 pub fn programme_sheet(blocks: &[Block]) -> Sheet {
     let regions: Vec<u8> = blocks.iter().map(Block::region_byte).collect();
+    let floors = blocks.iter().map(|block| block.endorsement.floor_byte());
+    let floors: Vec<u8> = floors.collect();
     let codes: Vec<Sheet> = blocks
         .iter()
         .map(|block| {
@@ -136,11 +185,11 @@ pub fn programme_sheet(blocks: &[Block]) -> Sheet {
             code
         })
         .collect();
-    sheet_of_codes(&regions, &codes)
+    sheet_of_codes(&regions, &floors, &codes)
 }
 
 /// The sheet of blocks with any code.
-pub fn sheet_of_codes(regions: &[u8], codes: &[Sheet]) -> Sheet {
+pub fn sheet_of_codes(regions: &[u8], floors: &[u8], codes: &[Sheet]) -> Sheet {
     let mut sheet = Sheet::default();
     sheet.push(Part::Size, &[regions.len() as u8]);
     let total = codes.iter().map(|code| code.bytes.len()).sum();
@@ -149,6 +198,32 @@ pub fn sheet_of_codes(regions: &[u8], codes: &[Sheet]) -> Sheet {
     for code in codes {
         sheet.push_size(Part::Length, code.bytes.len());
     }
+    sheet.push(Part::Floor, floors);
     codes.iter().for_each(|code| sheet.append(code));
     sheet
+}
+
+#[cfg(test)]
+mod tests {
+    use super::*;
+
+    /// "a third array of one byte each after the lengths" (document 02, N6)
+    #[test]
+    fn floors_stand_between_lengths_and_code() {
+        let endorsed = Block {
+            region: 1,
+            endorsement: Endorsement::DownTo(3),
+            command: Command::Sequence(vec![Command::Skip, Command::Skip]),
+        };
+        let blocks = [endorsed, Block::plain(2, Command::Skip)];
+        let known = [
+            vec![2, 5, 0],
+            vec![0x81, 2],
+            vec![4, 0, 1, 0],
+            vec![3, 0xFF],
+            vec![Command::SEQUENCE, 2, Command::SKIP, Command::SKIP],
+            vec![Command::SKIP],
+        ];
+        assert_eq!(programme_sheet(&blocks).bytes, known.concat());
+    }
 }

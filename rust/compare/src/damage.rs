@@ -1,6 +1,6 @@
 //! Damage to a good sheet, aimed at what its bytes say.
 
-use crate::code::{Block, Command};
+use crate::code::{Command, Endorsement};
 use crate::expressions::{Expression, Operator};
 use crate::high_bytes::set_high_bytes;
 use crate::layout::Layout;
@@ -14,7 +14,7 @@ pub fn damaged(random: &mut Random, sheet: &Sheet) -> Vec<u8> {
     if random.one_in(4) {
         change_part(random, sheet, &mut bytes);
     }
-    match random.below(20) {
+    match random.below(22) {
         0 => bytes.truncate(random.below(bytes.len() + 1)),
         1 => drop(bytes.pop()),
         2 => {
@@ -26,6 +26,7 @@ pub fn damaged(random: &mut Random, sheet: &Sheet) -> Vec<u8> {
         5 => change_size(random, sheet, &mut bytes),
         6..=9 => reshape_code(random, sheet, &mut bytes),
         10 | 11 => raise_payload(random, sheet, &mut bytes),
+        12 | 13 => spoil_floors(random, sheet, &mut bytes),
         _ => change_part(random, sheet, &mut bytes),
     }
     bytes
@@ -76,13 +77,14 @@ fn raise_payload(random: &mut Random, sheet: &Sheet, bytes: &mut [u8]) {
 
 /// Some byte becomes one that is telling at its place.
 fn change_part(random: &mut Random, sheet: &Sheet, bytes: &mut [u8]) {
-    const PARTS: [Part; 9] = [
+    const PARTS: [Part; 10] = [
         Part::Mask,
         Part::Owner,
         Part::Kind,
         Part::Payload,
         Part::Region,
         Part::Length,
+        Part::Floor,
         Part::Command,
         Part::Count,
         Part::Expression,
@@ -104,7 +106,7 @@ fn telling(random: &mut Random, part: Part, old: u8) -> u8 {
         Part::Owner => random.pick(&[near, 31, 32, 255]),
         Part::Kind => random.pick(&[near, Kind::UNKNOWN, 1, 2, 3, 255]),
         Part::Payload => random.pick(&[near, 2, 0x80, 255]),
-        Part::Region => random.pick(&[near, old ^ Block::ENDORSED, 32, 0x7F, 0xFF]),
+        Part::Region | Part::Floor => random.pick(&[near, old ^ Endorsement::MARK, 32, 0x7F, 0xFF]),
         Part::Size | Part::Length => near,
         Part::Command => random.pick(&[
             Command::SKIP - 1,
@@ -128,12 +130,44 @@ fn telling(random: &mut Random, part: Part, old: u8) -> u8 {
     }
 }
 
+/// The layout of a programme sheet that has blocks.
+fn layout_of(sheet: &Sheet, bytes: &[u8]) -> Option<Layout> {
+    let has_blocks = !sheet.places(Part::Region).is_empty();
+    Layout::of(bytes).filter(|layout| has_blocks && layout.blocks > 0)
+}
+
+/// A block becomes endorsed, so that the byte for its floor counts, and that
+/// changes too; now and then a length as well. Or no floors are left. In a store
+/// sheet a byte changes.
+fn spoil_floors(random: &mut Random, sheet: &Sheet, bytes: &mut Vec<u8>) {
+    let Some(layout) = layout_of(sheet, bytes) else {
+        return change_part(random, sheet, bytes);
+    };
+    if random.one_in(8) {
+        bytes.drain(layout.floor_place(0)..layout.floor_place(layout.blocks));
+        return;
+    }
+    let block = random.below(layout.blocks);
+    bytes[layout.region_place(block)] |= Endorsement::MARK;
+    let floor = layout.floor_place(block);
+    if random.one_in(2) {
+        bytes[floor] = telling(random, Part::Floor, bytes[floor]);
+    }
+    match random.below(4) {
+        0 => {
+            let place = random.pick(&sheet.places(Part::Length));
+            bytes[place] = telling(random, Part::Length, bytes[place]);
+        }
+        1 => bytes.push(random.byte()),
+        _ => (),
+    }
+}
+
 /// The code of a block gets longer or shorter, and the sizes go along; or
 /// bytes go over to the next block. In a store sheet a byte changes.
 fn reshape_code(random: &mut Random, sheet: &Sheet, bytes: &mut Vec<u8>) {
-    let layout = match Layout::of(bytes) {
-        Some(layout) if layout.blocks > 0 && !sheet.places(Part::Region).is_empty() => layout,
-        _ => return change_part(random, sheet, bytes),
+    let Some(layout) = layout_of(sheet, bytes) else {
+        return change_part(random, sheet, bytes);
     };
     let block = random.below(layout.blocks);
     let length = layout.length(bytes, block);

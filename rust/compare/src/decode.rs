@@ -1,7 +1,7 @@
 //! Good sheets read back into stores and commands, to tell what a run does with
 //! them. Whether a sheet is good is for the runners to judge.
 
-use crate::code::{Block, Command};
+use crate::code::{Block, Command, Endorsement};
 use crate::expressions::{Expression, Operator};
 use crate::lattices::Lattice;
 use crate::layout::Layout;
@@ -32,10 +32,10 @@ pub fn store_in(sheet: &[u8]) -> Option<Store> {
 pub fn blocks_in(sheet: &[u8]) -> Option<Vec<Block>> {
     let layout = Layout::of(sheet)?;
     let block = |number| {
-        let region = layout.region(sheet, number);
+        let (region, floor) = layout.header(sheet, number);
         Some(Block {
-            region: region % Block::ENDORSED,
-            endorsed: region >= Block::ENDORSED,
+            region: region % Endorsement::MARK,
+            endorsement: Endorsement::in_bytes(region, floor),
             command: command_at(sheet, number, 0)?,
         })
     };
@@ -162,11 +162,7 @@ mod tests {
         let one = || Expression::literal(Value::Integer(1));
         let inner = Expression::operation(Operator::Equal, one(), Expression::read(one()));
         let outer = Expression::operation(Operator::Sum, one(), inner);
-        let block = Block {
-            region: 0,
-            endorsed: false,
-            command: Command::set(0, outer),
-        };
+        let block = Block::plain(0, Command::set(0, outer));
         let sheet = programme_sheet(&[block]).bytes;
         let around = |offset| operands_around(&sheet, 0, offset).expect("cut code");
         // After 21 and a target: the sum, its left operand, and the equal.

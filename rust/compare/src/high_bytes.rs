@@ -178,11 +178,7 @@ mod tests {
     }
 
     fn literal_check_of(value: Value, change: impl Fn(&mut [u8])) -> Call {
-        let block = Block {
-            region: 0,
-            endorsed: false,
-            command: Command::set(0, Expression::literal(value)),
-        };
+        let block = Block::plain(0, Command::set(0, Expression::literal(value)));
         let mut sheet = programme_sheet(&[block]).bytes;
         let first = sheet.len() - Value::PAYLOAD;
         change(&mut sheet[first..]);

@@ -5,7 +5,7 @@ use std::fmt::{self, Display, Formatter};
 use crate::author::{Author, Care};
 use crate::calls::Run;
 use crate::code::programme_sheet;
-use crate::play_runs::{plain_run, random_budget, random_sheets, RULES};
+use crate::play_runs::{endorsed_sheets, plain_run, random_budget, random_sheets, RULES};
 use crate::play_sheets::{good_programme, random_programme, random_store};
 use crate::random::Random;
 use crate::rule_numbers::other_byte;
@@ -158,7 +158,8 @@ fn any_sheets(random: &mut Random) -> (Vec<u8>, Vec<u8>) {
             let store = Store::random(random);
             (store.bytes(), random_programme(random, &store))
         }
-        6..=10 => careful_sheets(random),
+        6..=8 => careful_sheets(random),
+        9 | 10 => endorsed_sheets(random),
         _ => random_sheets(random),
     }
 }

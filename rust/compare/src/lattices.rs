@@ -94,10 +94,31 @@ impl Lattice {
         self.with_mask(all)
     }
 
+    /// The meet of all principals.
+    pub fn bottom(&self) -> u8 {
+        let shared = self
+            .masks
+            .iter()
+            .fold(u32::MAX, |shared, mask| shared & mask);
+        self.with_mask(shared)
+    }
+
     /// No two principals of a good table have the same mask.
     fn with_mask(&self, mask: u32) -> u8 {
         let found = self.masks.iter().position(|own| *own == mask);
         found.expect("a good table has all its meets and a top") as u8
+    }
+
+    pub fn are_unrelated(&self, one: u8, other: u8) -> bool {
+        !self.at_or_below(one, other) && !self.at_or_below(other, one)
+    }
+
+    /// Whether it is no chain.
+    pub fn has_unrelated(&self) -> bool {
+        let others = |one| self.principals_where(|other| self.are_unrelated(one, other));
+        !self
+            .principals_where(|one| !others(one).is_empty())
+            .is_empty()
     }
 
     /// Every principal that the test holds of.
@@ -245,12 +266,13 @@ pub mod tests {
     }
 
     #[test]
-    fn good_tables_know_their_meets_and_top() {
+    fn good_tables_know_their_meets_top_and_bottom() {
         for case in 0..300 {
             let lattice = Lattice::random(&mut Random::of_case(2, case));
             let all = lattice.principals_where(|_| true);
             for one in &all {
                 assert!(lattice.at_or_below(*one, lattice.top()));
+                assert!(lattice.at_or_below(lattice.bottom(), *one));
                 for other in &all {
                     let meet = lattice.meet(*one, *other);
                     let common = lattice.principals_where(|lower| {

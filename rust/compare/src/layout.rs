@@ -9,17 +9,29 @@ pub struct Layout {
 impl Layout {
     const SIZES: usize = 3;
     const CODE_SIZE: usize = 1;
-    const HEADER: usize = 3;
+    /// Region, length and floor.
+    const HEADER: usize = 4;
 
     /// The layout of a sheet whose length is what its sizes and block lengths
     /// say.
     pub fn of(sheet: &[u8]) -> Option<Layout> {
+        let layout = Layout::with_headers(sheet)?;
+        let code = sheet.len() - layout.code();
+        let lengths = (0..layout.blocks).map(|block| layout.length(sheet, block));
+        (lengths.sum::<usize>() == code).then_some(layout)
+    }
+
+    /// The layout of a sheet that can hold all that stands ahead of its code.
+    pub fn with_headers(sheet: &[u8]) -> Option<Layout> {
         let layout = Layout {
             blocks: usize::from(*sheet.first()?),
         };
-        let code = sheet.len().checked_sub(layout.code())?;
-        let lengths = (0..layout.blocks).map(|block| layout.length(sheet, block));
-        (lengths.sum::<usize>() == code).then_some(layout)
+        (sheet.len() >= layout.code()).then_some(layout)
+    }
+
+    /// The length that the sizes say.
+    pub fn wanted_length(&self, sheet: &[u8]) -> usize {
+        self.code() + two_bytes(sheet, Layout::CODE_SIZE)
     }
 
     /// Where the code starts.
@@ -27,7 +39,7 @@ impl Layout {
         Layout::SIZES + Layout::HEADER * self.blocks
     }
 
-    fn region_place(&self, block: usize) -> usize {
+    pub fn region_place(&self, block: usize) -> usize {
         Layout::SIZES + block
     }
 
@@ -35,12 +47,23 @@ impl Layout {
         Layout::SIZES + self.blocks + 2 * block
     }
 
+    pub fn floor_place(&self, block: usize) -> usize {
+        Layout::SIZES + 3 * self.blocks + block
+    }
+
     pub fn length(&self, sheet: &[u8], block: usize) -> usize {
         two_bytes(sheet, self.length_place(block))
     }
 
-    pub fn region(&self, sheet: &[u8], block: usize) -> u8 {
-        sheet[self.region_place(block)]
+    /// The block's region and its floor, both as bytes.
+    pub fn header(&self, sheet: &[u8], block: usize) -> (u8, u8) {
+        let (region, floor) = (self.region_place(block), self.floor_place(block));
+        (sheet[region], sheet[floor])
+    }
+
+    /// Those of all blocks.
+    pub fn headers(self, sheet: &[u8]) -> impl Iterator<Item = (u8, u8)> + '_ {
+        (0..self.blocks).map(move |block| self.header(sheet, block))
     }
 
     /// The block's code, if there is such a block.
@@ -70,6 +93,7 @@ impl Layout {
         let (start, length) = (self.start(sheet, block), self.length(sheet, block));
         less.drain(start..start + length);
         self.set_length(&mut less, block, 0);
+        less.remove(self.floor_place(block));
         let place = self.length_place(block);
         less.drain(place..place + 2);
         less.remove(self.region_place(block));

@@ -1,6 +1,6 @@
 //! Programmes at the limits of documents 01 and 02 and one past them.
 
-use crate::author::{Author, Care};
+use crate::author::{any_byte, Author, Care};
 use crate::code::{programme_sheet, sheet_of_codes, Block, Command};
 use crate::expressions::{Expression, Operator};
 use crate::random::Random;
@@ -24,7 +24,8 @@ pub fn programme_at_limit(random: &mut Random, store: &Store) -> Sheet {
 /// A block with some command at exactly this depth.
 fn nested(author: &mut Author, depth: usize) -> Block {
     let region = author.any_region();
-    let mut block = author.block_of_depth(region, false, 0);
+    let endorsement = author.any_endorsement(region, 4);
+    let mut block = author.block_of_depth(region, endorsement, 0);
     for _ in 1..depth {
         block.command = wrapped(author.random(), block.command);
     }
@@ -47,7 +48,8 @@ fn wrapped(random: &mut Random, inner: Command) -> Command {
 fn deep(author: &mut Author, depth: usize) -> Block {
     let slots = author.table().slots();
     let region = author.any_region();
-    let mut block = author.block_of_depth(region, false, 2);
+    let endorsement = author.any_endorsement(region, 4);
+    let mut block = author.block_of_depth(region, endorsement, 2);
     let random = author.random();
     let deep = match random.one_in(8) {
         true => Expression::full(random, depth),
@@ -79,22 +81,23 @@ fn counted(author: &mut Author) -> Block {
         _ => author.random().between(2, most),
     };
     let region = author.any_region();
-    let endorsed = author.random().one_in(3);
+    let endorsement = author.any_endorsement(region, 3);
     let commands = (0..count).map(|_| match author.random().one_in(4) {
-        true => author.block_of_depth(region, endorsed, 0).command,
+        true => author.block_of_depth(region, endorsement, 0).command,
         false => Command::Skip,
     });
     Block {
         region,
-        endorsed,
+        endorsement,
         command: Command::Sequence(commands.collect()),
     }
 }
 
 fn small_blocks(author: &mut Author, count: usize) -> Vec<Block> {
     let mut small_block = || {
-        let (region, endorsed) = (author.any_region(), author.random().one_in(3));
-        author.block_of_depth(region, endorsed, 0)
+        let region = author.any_region();
+        let endorsement = author.any_endorsement(region, 3);
+        author.block_of_depth(region, endorsement, 0)
     };
     (0..count).map(|_| small_block()).collect()
 }
@@ -106,7 +109,8 @@ fn filled(author: &mut Author, code: usize) -> Vec<Block> {
     let mut blocks: Vec<Block> = (0..count)
         .map(|_| {
             let region = author.any_region();
-            author.block_of_depth(region, false, 2)
+            let endorsement = author.any_endorsement(region, 4);
+            author.block_of_depth(region, endorsement, 2)
         })
         .collect();
     let mut rest = code - length_of(&blocks);
@@ -120,7 +124,7 @@ fn filled(author: &mut Author, code: usize) -> Vec<Block> {
         let region = author.any_region();
         let filler = Block {
             region,
-            endorsed: author.random().one_in(2),
+            endorsement: author.any_endorsement(region, 2),
             command: filler(length),
         };
         let place = author.random().below(blocks.len() + 1);
@@ -162,8 +166,9 @@ fn filler(length: usize) -> Command {
 pub fn formless_programme(random: &mut Random, principals: usize) -> Sheet {
     let count = random.between(1, 2);
     let regions: Vec<u8> = (0..count).map(|_| random.below(principals) as u8).collect();
+    let floors: Vec<u8> = (0..count).map(|_| any_byte(random, principals)).collect();
     let codes: Vec<Sheet> = (0..count).map(|_| formless_code(random)).collect();
-    sheet_of_codes(&regions, &codes)
+    sheet_of_codes(&regions, &floors, &codes)
 }
 
 fn formless_code(random: &mut Random) -> Sheet {
@@ -246,11 +251,7 @@ mod tests {
         let good = |length| {
             let command = filler(length);
             assert_eq!(command.length(), length);
-            let block = Block {
-                region: 0,
-                endorsed: false,
-                command,
-            };
+            let block = Block::plain(0, command);
             second::check_programme(&programme_sheet(&[block]).bytes, 1, 0).number == 0
         };
         let lengths = [1].into_iter().chain(4..1_200).chain([16_384]);

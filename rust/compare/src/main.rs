@@ -17,12 +17,14 @@
 mod answers;
 mod author;
 mod blockrun;
+mod budgets;
 mod calls;
 mod code;
 mod damage;
 mod decode;
 mod expressions;
 mod flaws;
+mod floors;
 mod high_bytes;
 mod inputs;
 mod integers;
@@ -45,6 +47,7 @@ mod rehearsal;
 mod rule_numbers;
 mod second;
 mod sheets;
+mod steps;
 mod tally;
 mod values;
 
@@ -188,6 +191,7 @@ fn play_sheets(seed: u64, count: u64) -> Report {
             report.say_answers(&played.tallies());
             report.say_all(played.high_bytes.lines());
             report.say_all(played.places.lines());
+            report.say_all(played.headers.lines());
             report.complaints = played.complaints();
         }
         Err(difference) => report.differs(*difference),
@@ -209,7 +213,8 @@ fn play_runs(seed: u64, count: u64) -> Report {
             report.say(played.budgets);
             report.say_all(played.high_bytes.lines());
             report.say_all(played.integers.lines());
-            report.say_all(played.operations.lines());
+            report.say_all(played.places.lines());
+            report.say_all(played.steps.lines());
             report.complaints = played.complaints();
         }
         Err(difference) => report.differs(*difference),

@@ -3,10 +3,10 @@
 //!
 //! The adversary is any one principal. A slot is protected when its owner does
 //! not stand at or below the adversary; a block is within reach when its
-//! region does. Two stores agree in the protected slots, a programme has no
-//! endorsed block, and in each of two replacements the blocks within reach are
-//! any blocks within reach. If both runs finish, they end alike in the
-//! protected slots.
+//! region does. Two stores agree in the protected slots, no endorsed block
+//! outside reach has a floor at or below the adversary, and in each of two
+//! replacements the blocks within reach are any blocks within reach. If both
+//! runs finish, they end alike in the protected slots.
 //!
 //! So says one direction of demand 3. The other: two stores that differ in a
 //! protected slot have a programme that shows it. One with no blocks does.
@@ -15,9 +15,11 @@
 //! end differently in a protected slot, or the condition would not be needed.
 
 mod counts;
+mod endorsed;
 mod making;
 mod pair;
 mod tainted;
+mod terms;
 
 use self::counts::{Played, Rules, Without};
 use self::pair::{Leak, Pair};
@@ -34,7 +36,7 @@ pub enum Stopped {
     Hides(Box<[Call; 2]>),
 }
 
-/// Plays so many pairs under each rule, without each of two conditions, and
+/// Plays so many pairs under each rule, without each of the conditions, and
 /// back.
 pub fn play(seed: u64, count: u64) -> Result<Played, Stopped> {
     let mut played = Played::default();

@@ -8,9 +8,9 @@ use crate::blockrun::{Printed, Program};
 use crate::calls::hex;
 use crate::inputs::{End, Input};
 use crate::lines::{Lines, SlotLine};
-use crate::operations::Worked;
 use crate::random::Random;
 use crate::sheets::MOST_SLOTS;
+use crate::steps::Steps;
 use crate::tally::{Checklist, Tally, NUMBERS};
 use crate::values::{Integer, Kind, ENDS};
 
@@ -29,7 +29,7 @@ pub struct Played {
     without_minus: Checklist,
     with_minus: Checklist,
     extremes: Checklist,
-    worked: Worked,
+    steps: Steps,
     /// Inputs that the program did not read to their end.
     unread: u64,
     /// Outputs that are not lines as document 01 has them, for both alike.
@@ -50,7 +50,7 @@ impl Played {
             without_minus: Checklist::new("integers without a minus, by digits", digits.clone()),
             with_minus: Checklist::new("integers with a minus, by digits", digits),
             extremes: Checklist::new("integers at an end", ENDS),
-            worked: Worked::default(),
+            steps: Steps::default(),
             unread: 0,
             formless: 0,
         }
@@ -102,8 +102,8 @@ impl Played {
     pub fn lines(&self) -> Vec<String> {
         let lists = self.lists().map(Checklist::to_string);
         let unread = format!("inputs not read to their end: {}", self.unread);
-        let worked = self.worked.lines();
-        lists.into_iter().chain(worked).chain([unread]).collect()
+        let steps = self.steps.lines();
+        lists.into_iter().chain(steps).chain([unread]).collect()
     }
 
     /// What is wrong with these counts, in words.
@@ -115,7 +115,7 @@ impl Played {
         let answers = self.answers.complaints().into_iter();
         answers
             .chain(lists.concat())
-            .chain(self.worked.complaints_of_steps_done())
+            .chain(self.steps.complaints_of_steps_done())
             .chain(unread)
             .chain(formless)
             .collect()
@@ -199,7 +199,7 @@ fn play_by(
         if printed.bytes == second && printed.status.success() {
             played.count(made.end, &printed);
             if let Some(run) = made.asked() {
-                played.worked.count(run, run.second().answer);
+                played.steps.count(run, run.second().answer);
             }
             continue;
         }

@@ -1,18 +1,20 @@
 //! Whole runs under every rule, with budgets around the steps they need.
 
-use std::fmt::{self, Display, Formatter};
-
 use crate::answers::Answer;
+use crate::author::{Author, Care};
+use crate::budgets::Budgets;
 use crate::calls::{Call, Difference, Run, Seen};
+use crate::code::programme_sheet;
 use crate::damage::damaged;
 use crate::high_bytes::HighBytes;
 use crate::integers::Integers;
 use crate::limits::programme_at_limit;
-use crate::operations::Operations;
+use crate::operations::Places;
 use crate::play_sheets::{good_programme, large_programme, random_programme};
 use crate::random::Random;
 use crate::rule_numbers::{other_rule, WIDE};
 use crate::sheets::{flawed_store_sheet, Store};
+use crate::steps::Steps;
 use crate::tally::{Checklist, Tally};
 use crate::values::Value;
 
@@ -31,53 +33,9 @@ pub const RULES: [(u32, &[u32], &[u32]); 5] = [
     (255, &[14, 16], &[15]),
 ];
 
-/// How many runs had which budget beside the steps that they do when they have
-/// enough. Runs that are refused before their first step don't count.
-#[derive(Debug, Clone, Copy, Default)]
-pub struct Budgets {
-    one_less: u64,
-    exact: u64,
-    one_more: u64,
-}
-
-impl Budgets {
-    fn count(&mut self, budget: u32, steps: u32) {
-        match i64::from(budget) - i64::from(steps) {
-            -1 => self.one_less += 1,
-            0 => self.exact += 1,
-            1 => self.one_more += 1,
-            _ => (),
-        }
-    }
-
-    fn complaints(&self) -> Vec<String> {
-        let counts = [self.one_less, self.exact, self.one_more];
-        if counts.contains(&0) {
-            vec![format!("one of these never came up: {self}")]
-        } else {
-            Vec::new()
-        }
-    }
-}
-
-impl Display for Budgets {
-    fn fmt(&self, out: &mut Formatter) -> fmt::Result {
-        let Budgets {
-            one_less,
-            exact,
-            one_more,
-        } = self;
-        write!(
-            out,
-            "budget beside the steps that a run does: \
-             one less {one_less}, as many {exact}, one more {one_more}"
-        )
-    }
-}
-
 /// Counts of each rule, of rule numbers that there are not, of those among them
 /// that are wide, of budgets, of ill-formed values, of the integers that runs end
-/// with and of operations.
+/// with, of code refused in an operand and of steps.
 #[derive(Debug, Clone)]
 pub struct Played {
     rules: Vec<(u32, Tally)>,
@@ -86,7 +44,8 @@ pub struct Played {
     pub budgets: Budgets,
     pub high_bytes: HighBytes,
     pub integers: Integers,
-    pub operations: Operations,
+    pub places: Places,
+    pub steps: Steps,
 }
 
 impl Played {
@@ -109,7 +68,8 @@ impl Played {
             budgets: Budgets::default(),
             high_bytes: HighBytes::default(),
             integers: Integers::default(),
-            operations: Operations::default(),
+            places: Places::default(),
+            steps: Steps::default(),
         }
     }
 
@@ -122,7 +82,8 @@ impl Played {
             self.budgets.complaints(),
             self.high_bytes.complaints(),
             self.integers.complaints(),
-            self.operations.complaints(),
+            self.places.complaints(),
+            self.steps.complaints(),
         ];
         answers.chain(others.concat()).collect()
     }
@@ -139,7 +100,10 @@ impl Played {
         tally.count(seen.answer.number);
         self.wide.count(rule);
         self.high_bytes.count(call, seen.answer);
-        self.operations.count(call, seen.answer);
+        self.places.count(call, seen.answer);
+        if let Call::Run(run) = call {
+            self.steps.count(run, seen.answer);
+        }
         if let (0, Some(store)) = (seen.answer.number, call.store()) {
             self.integers.count(store, seen.output());
         }
@@ -184,8 +148,21 @@ pub fn random_sheets(random: &mut Random) -> (Vec<u8>, Vec<u8>) {
         2 => (sheet.bytes, random_programme(random, &store)),
         3 => (sheet.bytes, programme_at_limit(random, &store).bytes),
         4 | 5 => (sheet.bytes, large_programme(random, &store).bytes),
+        6..=8 => endorsed_sheets(random),
         _ => (sheet.bytes, good_programme(random, &store).bytes),
     }
+}
+
+/// Good sheets in which much depends on floors.
+pub fn endorsed_sheets(random: &mut Random) -> (Vec<u8>, Vec<u8>) {
+    let store = Store::with_unrelated(random);
+    let care = Care {
+        labels: random.pick(&[100, 70, 0]),
+        branches: random.pick(&[100, 70, 0]),
+        ..Care::FULL
+    };
+    let blocks = Author::new(random, &store, care).endorsed_programme();
+    (store.bytes(), programme_sheet(&blocks).bytes)
 }
 
 /// A run with enough budget and the output that the store sheet asks for.
@@ -271,16 +248,6 @@ mod tests {
             let words = format!("rule numbers past a byte: {wide} never came up");
             assert!(complaints.contains(&words), "{complaints:?}");
         }
-    }
-
-    #[test]
-    fn a_budget_that_never_comes_up_is_told() {
-        let mut budgets = Budgets::default();
-        budgets.count(4, 5);
-        budgets.count(5, 5);
-        assert_eq!(budgets.complaints().len(), 1);
-        budgets.count(6, 5);
-        assert!(budgets.complaints().is_empty());
     }
 
     /// What both runners answer.

@@ -4,6 +4,7 @@ use crate::author::{Author, Care};
 use crate::calls::{Call, Difference};
 use crate::code::programme_sheet;
 use crate::damage::damaged;
+use crate::floors::Headers;
 use crate::high_bytes::HighBytes;
 use crate::lattices::MOST_PRINCIPALS;
 use crate::limits::{formless_programme, programme_at_limit};
@@ -22,6 +23,7 @@ pub struct Played {
     programme: Tally,
     pub high_bytes: HighBytes,
     pub places: Places,
+    pub headers: Headers,
 }
 
 impl Played {
@@ -35,6 +37,7 @@ impl Played {
             programme: tally("check_programme", &[0, 6, 7, 8, 9, 10]),
             high_bytes: HighBytes::default(),
             places: Places::default(),
+            headers: Headers::default(),
         }
     }
 
@@ -45,7 +48,11 @@ impl Played {
     /// What is wrong with these counts, in words.
     pub fn complaints(&self) -> Vec<String> {
         let tallies = self.tallies().map(Tally::complaints).concat();
-        let others = [self.high_bytes.complaints(), self.places.complaints()];
+        let others = [
+            self.high_bytes.complaints(),
+            self.places.complaints(),
+            self.headers.complaints(),
+        ];
         [tallies, others.concat()].concat()
     }
 }
@@ -58,6 +65,7 @@ pub fn play(seed: u64, count: u64) -> Result<Played, Box<Difference>> {
         let answer = call.compare()?.answer;
         played.high_bytes.count(&call, answer);
         played.places.count(&call, answer);
+        played.headers.count(&call, answer);
         match call {
             Call::CheckStore { .. } => played.store.count(answer.number),
             Call::CheckTable { .. } => played.table.count(answer.number),

@@ -3,6 +3,7 @@
 use crate::flaws::Flaw;
 use crate::lattices::{Lattice, MOST_PRINCIPALS};
 use crate::random::Random;
+use crate::rehearsal::Rehearsal;
 use crate::values::Value;
 
 pub const MOST_SLOTS: usize = 256;
@@ -17,6 +18,7 @@ pub enum Part {
     Payload,
     Region,
     Length,
+    Floor,
     Command,
     Count,
     Expression,
@@ -138,6 +140,19 @@ impl Store {
         Store::with_table(random, table)
     }
 
+    /// Some slots, and principals of which two at least are unrelated.
+    pub fn with_unrelated(random: &mut Random) -> Store {
+        let lattice = loop {
+            let lattice = Lattice::random(random);
+            if lattice.has_unrelated() {
+                break lattice;
+            }
+        };
+        let slots = random.between(3, 10);
+        let table = Table::with_slots(random, lattice, slots);
+        Store::with_table(random, table)
+    }
+
     /// Any values. Some stores have a chain of read views, so that reads in a
     /// row go far.
     pub fn with_table(random: &mut Random, table: Table) -> Store {
@@ -147,6 +162,14 @@ impl Store {
             chain_views(random, &mut values);
         }
         Store { table, values }
+    }
+
+    /// A rehearsal that opens with it.
+    pub fn stage(&self) -> Rehearsal<'_> {
+        Rehearsal {
+            table: &self.table,
+            values: self.values.clone(),
+        }
     }
 
     pub fn sheet(&self) -> Sheet {

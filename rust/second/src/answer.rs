@@ -37,7 +37,7 @@ pub(crate) enum Refusal {
     Value = 5,
     ProgrammeLength = 6,
     ProgrammeLimits = 7,
-    Region = 8,
+    RegionOrFloor = 8,
     CodeIllFormed = 9,
     NestedTooDeep = 10,
     Arguments = 11,

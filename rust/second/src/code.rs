@@ -3,7 +3,7 @@
 use crate::answer::{Answer, BlockRefusal, Refusal};
 use crate::bytes::take;
 use crate::operation::Operator;
-use crate::sheet::{ProgrammeSheet, Region};
+use crate::programme::{ProgrammeSheet, Region};
 use crate::value::{Kind, Value};
 
 #[derive(Debug, Clone)]

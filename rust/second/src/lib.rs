@@ -16,6 +16,7 @@ mod code;
 mod operation;
 mod order;
 mod print;
+mod programme;
 mod rule;
 mod run;
 mod sheet;
@@ -26,9 +27,10 @@ pub use crate::print::{print, Input};
 
 use crate::answer::Refusal;
 use crate::code::parse_blocks;
+use crate::programme::ProgrammeSheet;
 use crate::rule::{Budget, RuleSet};
 use crate::run::run_blocks;
-use crate::sheet::{ProgrammeSheet, Store, Table};
+use crate::sheet::{Store, Table};
 
 /// Judges both sheets and the arguments, runs the blocks and, if they finish,
 /// writes the end store to `output`. A refusal leaves `output` untouched.
@@ -60,7 +62,7 @@ fn judge_and_run(
     let rule = RuleSet::from_number(rule).ok_or(Refusal::Arguments)?;
     let budget = Budget::from_steps(budget).ok_or(Refusal::Arguments)?;
     let opening = Store::from_sheet(store)?;
-    let sheet = ProgrammeSheet::from_bytes(programme, &opening.table)?;
+    let sheet = ProgrammeSheet::from_bytes(programme, &opening.table.order)?;
     let blocks = parse_blocks(&sheet, opening.table.slots())?;
     if output.len() != opening.output_bytes() {
         return Err(Refusal::OutputLength.into());

@@ -3,7 +3,8 @@
 
 use crate::answer::Refusal;
 use crate::order::{Order, Principal};
-use crate::sheet::{Region, Table};
+use crate::programme::Region;
+use crate::sheet::Table;
 use crate::value::Value;
 
 /// The most steps a run may do.
@@ -84,8 +85,8 @@ impl RuleSet {
         if self.asks_authority() && !order.at_or_below(owner, region.principal) {
             return Err(Refusal::NoAuthority);
         }
-        let mut judged = self.judged_labels(labels).into_iter();
-        if !region.endorsed && !judged.all(|label| order.at_or_below(owner, label)) {
+        let judged = self.meet_of_judged(order, labels);
+        if judged.is_some_and(|meet| !reaches(order, meet, owner, region.endorsed_down_to)) {
             return Err(Refusal::ProvenanceTooLow);
         }
         Ok(())
@@ -97,13 +98,23 @@ impl RuleSet {
         self != RuleSet::Capability
     }
 
-    /// The labels that must stand at or above the owner, unless the block is
-    /// endorsed.
-    fn judged_labels(self, labels: Labels) -> Vec<Principal> {
+    /// "the meet of all labels judged" (document 02, N6): rule 2 judges target
+    /// and value, rule 3 "one more label, that of the branch", the others none.
+    fn meet_of_judged(self, order: &Order, labels: Labels) -> Option<Principal> {
+        let explicit = order.meet(labels.target, labels.value);
         match self {
-            RuleSet::AccessControl | RuleSet::Capability => vec![],
-            RuleSet::ExplicitProvenance => vec![labels.target, labels.value],
-            RuleSet::FullProvenance => vec![labels.target, labels.value, labels.branch],
+            RuleSet::AccessControl | RuleSet::Capability => None,
+            RuleSet::ExplicitProvenance => Some(explicit),
+            RuleSet::FullProvenance => Some(order.meet(explicit, labels.branch)),
         }
     }
+}
+
+/// "an endorsed assignment passes [..] when the meet of all labels judged stands
+/// at or above the slot's owner, or at or above the floor" (document 02, N6). Of
+/// a block that is not endorsed, which has no floor, the labels "both stand at or
+/// above the owner" just when their meet does.
+fn reaches(order: &Order, meet: Principal, owner: Principal, floor: Option<Principal>) -> bool {
+    let above_floor = floor.is_some_and(|floor| order.at_or_below(floor, meet));
+    order.at_or_below(owner, meet) || above_floor
 }

@@ -4,8 +4,9 @@
 use crate::answer::{Answer, BlockRefusal, Refusal};
 use crate::code::{Block, Command, Expression, Form, Operation};
 use crate::order::Principal;
+use crate::programme::Region;
 use crate::rule::{Budget, Labels, RuleSet};
-use crate::sheet::{Region, Store};
+use crate::sheet::Store;
 use crate::value::Value;
 
 /// A finished run.

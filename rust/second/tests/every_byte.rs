@@ -141,14 +141,50 @@ fn a_table_sheet_cut_to_any_length_is_refused() {
     }
 }
 
+/// "An endorsed block's floor must be below n, else 8, right after its region"
+/// (document 02, N6): the whole byte. Of a block that is not endorsed it is
+/// "ignored".
+#[test]
+fn a_floor_is_below_n_if_its_block_is_endorsed() {
+    for masks in [1, 2, 5, 32].map(chain) {
+        let sheet = store(&masks, &[]);
+        for floor in 0..=u8::MAX {
+            check_floor(&sheet, 0x00, floor, true);
+            check_floor(&sheet, 0x80, floor, usize::from(floor) < masks.len());
+        }
+    }
+}
+
+/// The header of either of two blocks, a skip each, with lengths that add up and
+/// with others: 8 is judged before these.
+#[track_caller]
+fn check_floor(store: &[u8], region: u8, floor: u8, good: bool) {
+    for (regions, floors) in [([region, 0], [floor, 0]), ([0, region], [0, floor])] {
+        let of_lengths = |lengths: [usize; 2]| {
+            let sheet = programme_of_arrays(&regions, &lengths, &floors, &[0x20, 0x20]);
+            call(store, &sheet, 3)
+        };
+        if good {
+            of_lengths([1, 1]).finishes(0, &[]);
+            of_lengths([1, 2]).refused(6, 0, 0, 0);
+        } else {
+            of_lengths([1, 1]).refused(8, 0, 0, 0);
+            of_lengths([1, 2]).refused(8, 0, 0, 0);
+        }
+    }
+}
+
 /// "programme sizes (6, 7), length (6); 8 in block order": the same of k and c.
 #[test]
 fn a_programme_sheet_cut_to_any_length_is_refused() {
     let skips = |bytes| vec![0x20; bytes];
     let sheets = [
         (example_programme([0, 1]), 6),
-        // Its second region and its code are bad too.
-        (programme(&[(0, skips(2)), (9, vec![0xFF])]), 6),
+        // Its second region, its first floor and its code are bad too.
+        (
+            programme_with_floors(&[(0x80, 9, skips(2)), (9, 0, vec![0xFF])]),
+            6,
+        ),
         (programme(&vec![(0, skip()); 65]), 7),
         (programme(&[(0, skips(16_385))]), 7),
     ];

@@ -12,33 +12,19 @@ mod play;
 mod random;
 
 use play::*;
+use random::views::views_go_round;
 use random::*;
 use sheets::*;
 
 /// How many programmes of each kind are played.
-const PROGRAMMES: u64 = 10_000;
-/// Streams apart from those of the grammar's calls, which start at 0.
-const VIEWS: u64 = 4 << 32;
-/// Region bytes from here on are of endorsed blocks.
-const ENDORSED: u8 = 0x80;
-
-/// A region byte and the code.
-type Block = (u8, Bytes);
-
-fn stands_below(masks: &[u32], lower: u8, upper: u8) -> bool {
-    masks[usize::from(upper)] >> lower & 1 == 1
-}
-
-fn region(block: &Block) -> u8 {
-    block.0 % ENDORSED
-}
+const PROGRAMMES: u64 = 20_000;
 
 /// What the slots hold at the start, and after each block that the run comes
 /// through.
 fn stores(parts: &Parts, rule: u32) -> Vec<Bytes> {
     let whole = parts.call().rule(rule);
     let first = |count: usize| Call {
-        programme: programme(&parts.blocks[..count]),
+        programme: programme_with_floors(&parts.blocks[..count]),
         ..whole.clone()
     };
     let runs = (0..=parts.blocks.len()).map(|count| first(count).play());
@@ -101,7 +87,7 @@ impl Met<'_> {
         protected.map(|(slot, _)| slot)
     }
 
-    fn blocks_outside(&self) -> impl Iterator<Item = &Block> {
+    fn blocks_outside(&self) -> impl Iterator<Item = &FlooredBlock> {
         let blocks = self.parts.blocks.iter();
         blocks.filter(|block| self.is_outside(region(block)))
     }
@@ -127,11 +113,32 @@ impl Met<'_> {
         let views: Vec<Bytes> = views.collect();
         let is_view = |bytes: &[u8]| views.iter().any(|view| bytes == view);
         let mut outside = self.blocks_outside();
-        outside.all(|(_, code)| !code.windows(LITERAL).any(is_view))
+        outside.all(|(_, _, code)| !code.windows(LITERAL).any(is_view))
     }
 
-    fn none_endorsed_outside(&self) -> bool {
-        self.blocks_outside().all(|block| block.0 < ENDORSED)
+    /// The same parts, but the adversary is the floor of every block outside reach.
+    fn on_the_adversary_s_floor(&self) -> Parts {
+        let mut parts = self.parts.clone();
+        for block in &mut parts.blocks {
+            if self.is_outside(region(block)) {
+                block.1 = self.adversary;
+            }
+        }
+        parts
+    }
+
+    /// Protected slots hold in all these stores what they hold in the first.
+    fn keeps_protected(&self, stores: &[Bytes]) -> bool {
+        stores.iter().all(|store| {
+            let changed = changed(&stores[0], store);
+            self.protected().all(|slot| !changed.contains(&slot))
+        })
+    }
+
+    /// No endorsed block outside reach has a floor at or below the adversary.
+    fn floors_spare(&self) -> bool {
+        let mut endorsed = self.blocks_outside().filter(|block| is_endorsed(block));
+        endorsed.all(|(_, floor, _)| self.is_outside(*floor))
     }
 }
 
@@ -151,18 +158,15 @@ fn protected_slots_are_kept<const N: usize>(rule: u32, conditions: fn(&Met) -> [
             if met.protected().next().is_none() {
                 continue;
             }
-            let kept = |store: &Bytes| {
-                let changed = changed(&stores[0], store);
-                met.protected().all(|slot| !changed.contains(&slot))
-            };
+            let kept = met.keeps_protected(&stores);
             let holding = conditions(&met);
             let missing: Vec<usize> = (0..N).filter(|at| !holding[*at]).collect();
             match missing[..] {
                 [] => {
-                    assert!(stores.iter().all(kept));
+                    assert!(kept);
                     seen.count(parts, &stores);
                 }
-                [only] if finished && !stores.iter().all(kept) => lost[only] += 1,
+                [only] if finished && !kept => lost[only] += 1,
                 _ => (),
             }
         }
@@ -180,16 +184,38 @@ fn rule_1_keeps_protected_slots() {
 }
 
 /// Under rule 2 it is enough that no protected slot opens with such a view; but
-/// no block outside reach may be endorsed.
+/// of the endorsed blocks outside reach "none of their floors stands at or below
+/// the stranger" (document 02, N6), and these blocks too contain no such view.
+fn rule_2_conditions(met: &Met) -> [bool; 3] {
+    [
+        met.protected_slots_spare(),
+        met.blocks_spare(),
+        met.floors_spare(),
+    ]
+}
+
 #[test]
 fn rule_2_keeps_protected_slots() {
-    protected_slots_are_kept(2, |met| {
-        [
-            met.protected_slots_spare(),
-            met.blocks_spare(),
-            met.none_endorsed_outside(),
-        ]
-    });
+    protected_slots_are_kept(2, rule_2_conditions);
+}
+
+/// Among the runs of rule 2 that the conditions hold of are such that floors keep
+/// from changing a protected slot: had the endorsed blocks outside reach the
+/// adversary as floor, one would change.
+#[test]
+fn floors_keep_protected_slots() {
+    let mut by_floors = 0;
+    for parts in programmes() {
+        for adversary in 0..parts.masks.len() as u8 {
+            let parts = &parts;
+            let met = Met { parts, adversary };
+            if rule_2_conditions(&met) == [true; 3] {
+                let stores = stores(&met.on_the_adversary_s_floor(), 2);
+                by_floors += u32::from(!met.keeps_protected(&stores));
+            }
+        }
+    }
+    assert!(by_floors > 20, "{by_floors}");
 }
 
 /// The owner of a slot that a block changes stands at or below the block's
@@ -202,7 +228,7 @@ fn a_block_changes_only_slots_at_or_below_its_region() {
         let mut seen = Seen::default();
         let mut not_by_another = 0;
         for parts in programmes() {
-            let may_change = |block: &Block, slot: usize| {
+            let may_change = |block: &FlooredBlock, slot: usize| {
                 stands_below(parts.masks, parts.slots[slot].0, region(block))
             };
             let stores = stores(&parts, rule);
@@ -226,159 +252,4 @@ fn a_block_changes_only_slots_at_or_below_its_region() {
 fn programmes() -> impl Iterator<Item = Parts> {
     let of_grammar = (0..PROGRAMMES).map(good_parts);
     of_grammar.chain((0..PROGRAMMES).map(views_go_round))
-}
-
-/// Slots hold write views; blocks put them into slots and write through what a
-/// slot holds. For some adversary, each condition that is tried above is met
-/// about half the time.
-fn views_go_round(seed: u64) -> Parts {
-    let mut author = Author::stream(seed + VIEWS);
-    let slots = author.store();
-    let blocks = author.blocks();
-    Parts {
-        masks: author.masks,
-        slots,
-        blocks,
-        rule: 0,
-        budget: AMPLE,
-    }
-}
-
-/// What an author spares the slots that are protected from an adversary: write
-/// views of these, in the slots that the adversary may write, in protected ones
-/// and in blocks outside reach; and endorsed blocks outside reach.
-struct Spared {
-    in_own: bool,
-    in_protected: bool,
-    in_blocks: bool,
-    by_endorsed: bool,
-}
-
-struct Author {
-    random: Random,
-    masks: &'static [u32],
-    adversary: u8,
-    spared: Spared,
-    owners: Vec<u8>,
-    /// Slots that open with a write view, or that a block puts one into.
-    holding: Vec<usize>,
-}
-
-impl Author {
-    fn stream(number: u64) -> Author {
-        let mut random = Random::stream(number);
-        // The first table has one principal, and nothing to protect.
-        let masks = TABLES[1 + random.below(TABLES.len() - 1)];
-        let adversary = random.below(masks.len()) as u8;
-        let spared = Spared {
-            in_own: random.one_in(2),
-            in_protected: random.one_in(2),
-            in_blocks: random.one_in(2),
-            by_endorsed: random.one_in(2),
-        };
-        let count = 2 + random.below(3);
-        let owners = (0..count).map(|_| random.below(masks.len()) as u8);
-        let owners = owners.collect();
-        Author {
-            random,
-            masks,
-            adversary,
-            spared,
-            owners,
-            holding: vec![],
-        }
-    }
-
-    fn is_outside(&self, principal: u8) -> bool {
-        !stands_below(self.masks, principal, self.adversary)
-    }
-
-    fn slot(&mut self) -> usize {
-        self.random.below(self.owners.len())
-    }
-
-    /// For each slot its owner and its value.
-    fn store(&mut self) -> Vec<(u8, Bytes)> {
-        let owners = self.owners.clone().into_iter().enumerate();
-        let slots = owners.map(|(slot, owner)| {
-            let spares = if self.is_outside(owner) {
-                self.spared.in_protected
-            } else {
-                self.spared.in_own
-            };
-            (owner, self.put(slot, spares))
-        });
-        slots.collect()
-    }
-
-    fn blocks(&mut self) -> Vec<Block> {
-        let count = 1 + self.random.below(3);
-        let blocks = (0..count).map(|_| {
-            let principal = self.random.below(self.masks.len()) as u8;
-            let outside = self.is_outside(principal);
-            let spared = outside && self.spared.by_endorsed;
-            let endorsed = self.random.one_in(2) && !spared;
-            let code = self.command(outside && self.spared.in_blocks, 2);
-            (principal + if endorsed { ENDORSED } else { 0 }, code)
-        });
-        blocks.collect()
-    }
-
-    /// Some value; if it `spares`, no write view of a protected slot.
-    fn value(&mut self, spares: bool) -> Bytes {
-        let slot = self.slot();
-        let spared = spares && self.is_outside(self.owners[slot]);
-        match self.random.below(8) {
-            0 | 1 => integer(self.random.integer()),
-            2 => read_view(slot as i64),
-            _ if spared => truth(true),
-            _ => write_view(slot as i64),
-        }
-    }
-
-    /// Some value for this slot.
-    fn put(&mut self, slot: usize, spares: bool) -> Bytes {
-        let value = self.value(spares);
-        if value[0] == write_view(0)[0] {
-            self.holding.push(slot);
-        }
-        value
-    }
-
-    fn command(&mut self, spares: bool, depth: usize) -> Bytes {
-        match self.random.below(8) {
-            0 if depth > 0 => {
-                let first = self.command(spares, depth - 1);
-                sequence(&[first, self.command(spares, depth - 1)])
-            }
-            1 if depth > 0 => {
-                let part = self.command(spares, depth - 1);
-                if_else(literal(truth(true)), part, skip())
-            }
-            _ => self.assignment(spares),
-        }
-    }
-
-    /// A literal goes to a slot by its view, or some value to what a slot
-    /// names.
-    fn assignment(&mut self, spares: bool) -> Bytes {
-        let to = self.slot();
-        let spared = spares && self.is_outside(self.owners[to]);
-        if self.random.one_in(2) && !spared {
-            return set(to as i64, literal(self.put(to, spares)));
-        }
-        let through = match self.holding.len() {
-            0 => to,
-            count => self.holding[self.random.below(count)],
-        };
-        let from = self.slot() as i64;
-        let value = match self.random.below(16) {
-            0 => reads(2, from),
-            1..=4 => slot(from),
-            5 => equal(slot(from), literal(self.value(spares))),
-            6 => sum(slot(from), literal(integer(1))),
-            _ => literal(self.value(spares)),
-        };
-        assign(slot(through as i64), value)
-    }
 }

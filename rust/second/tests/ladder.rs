@@ -7,14 +7,13 @@ mod play;
 mod random;
 
 use play::*;
+use random::flows::flowing_parts;
 use random::*;
 use second_runner::Answer;
 use sheets::*;
 
 /// How many calls of each kind are played.
 const CALLS: u64 = 6_000;
-/// Streams apart from those of the grammar's calls, which start at 0.
-const FLOWS: u64 = 5 << 32;
 
 /// How often each number was an answer.
 type Counts = [u32; 18];
@@ -146,124 +145,5 @@ fn a_larger_budget_alters_only_spent_runs() {
 /// Calls of the grammar, and such in which low values flow up.
 fn calls() -> impl Iterator<Item = Call> {
     let of_grammar = (0..CALLS).map(good_call);
-    of_grammar.chain((0..CALLS).map(values_flow))
-}
-
-/// Slots hold truth values, mostly; blocks copy them up and down, and branch on
-/// them. The budget is small.
-fn values_flow(seed: u64) -> Call {
-    let mut random = Random::stream(seed + FLOWS);
-    // The first table has one principal, and labels that are all the same.
-    let masks = TABLES[1 + random.below(TABLES.len() - 1)];
-    let budget = random.below(12) as u32;
-    let slots = 2 + random.below(3);
-    let mut author = Author {
-        random,
-        masks,
-        slots,
-    };
-    let (slots, blocks) = (author.store(), author.blocks());
-    call(&store(masks, &slots), &programme(&blocks), 0).budget(budget)
-}
-
-struct Author {
-    random: Random,
-    masks: &'static [u32],
-    slots: usize,
-}
-
-impl Author {
-    fn principal(&mut self) -> u8 {
-        self.random.below(self.masks.len()) as u8
-    }
-
-    /// The principal that is above all.
-    fn top(&self) -> u8 {
-        let below = self.masks.iter().map(|mask| mask.count_ones() as usize);
-        let mut below = below.zip(0..);
-        let top = below.find(|(count, _)| *count == self.masks.len());
-        top.expect("a good table").1
-    }
-
-    fn slot(&mut self) -> i64 {
-        self.random.below(self.slots) as i64
-    }
-
-    fn value(&mut self) -> Bytes {
-        match self.random.below(8) {
-            0 => integer(self.random.integer()),
-            1 => write_view(self.slot()),
-            _ => truth(self.random.one_in(2)),
-        }
-    }
-
-    /// For each slot its owner and its value.
-    fn store(&mut self) -> Vec<(u8, Bytes)> {
-        let slots = 0..self.slots;
-        slots.map(|_| (self.principal(), self.value())).collect()
-    }
-
-    /// For each block its region byte, often the top's, and its code.
-    fn blocks(&mut self) -> Vec<(u8, Bytes)> {
-        let count = 1 + self.random.below(3);
-        let blocks = (0..count).map(|_| {
-            let region = if self.random.one_in(2) {
-                self.top()
-            } else {
-                self.principal()
-            };
-            (region, self.command(2))
-        });
-        blocks.collect()
-    }
-
-    fn command(&mut self, depth: usize) -> Bytes {
-        match self.random.below(8) {
-            0 if depth > 0 => {
-                let first = self.command(depth - 1);
-                sequence(&[first, self.command(depth - 1)])
-            }
-            1 | 2 if depth > 0 => {
-                let guard = self.guard();
-                let then_part = self.command(depth - 1);
-                if_else(guard, then_part, self.command(depth - 1))
-            }
-            3 if depth > 0 => {
-                let guard = self.guard();
-                while_do(guard, self.command(depth - 1))
-            }
-            _ => {
-                let target = self.slot();
-                let value = match self.random.below(8) {
-                    0..=3 => slot(self.slot()),
-                    4 => self.operation(),
-                    _ => literal(self.value()),
-                };
-                set(target, value)
-            }
-        }
-    }
-
-    /// What a slot holds, or whether two hold the same.
-    fn guard(&mut self) -> Bytes {
-        let one = slot(self.slot());
-        match self.random.below(4) {
-            0 => equal(one, slot(self.slot())),
-            _ => one,
-        }
-    }
-
-    /// Of two slots, or of a slot and a literal: low if either is.
-    fn operation(&mut self) -> Bytes {
-        let byte = match self.random.one_in(3) {
-            true => self.random.operation(),
-            false => EQUAL,
-        };
-        let (one, held) = (slot(self.slot()), literal(self.value()));
-        match self.random.below(3) {
-            0 => operation(byte, held, one),
-            1 => operation(byte, one, held),
-            _ => operation(byte, one, slot(self.slot())),
-        }
-    }
+    of_grammar.chain((0..CALLS).map(|seed| flowing_parts(seed).call()))
 }

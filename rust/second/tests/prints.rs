@@ -76,6 +76,27 @@ fn values_of_five_bytes_are_refused_in_the_programme() {
     prints_refusal(&input(0, 10, &store, &hex(programme)), 6);
 }
 
+/// Without floors, as it was laid out before, the programme is two bytes short.
+#[test]
+fn a_programme_without_floors_is_refused() {
+    let with_floors = example_programme([0, 1]);
+    let arrays = 3 + 2 + 4;
+    let without = join(&[&with_floors[..arrays], &with_floors[arrays + 2..]]);
+    prints_refusal(&input(0, 10, &example_store(), &without), 6);
+}
+
+/// "For P5, floor 0 still finishes and floor 1 gives 16." (document 02, N6)
+#[test]
+fn an_endorsed_block_goes_by_its_floor() {
+    let p5 = |floor| {
+        let sheet = example_with_floors([0, 0x81], [0, floor]);
+        input(3, 10, &example_store(), &sheet)
+    };
+    prints(&p5(0), "end 0 block 2 at 0 steps 2\n0 0 0 42\n1 1 0 42\n");
+    prints(&p5(1), "end 16 block 1 at 0 steps 1\n");
+    prints_refusal(&p5(2), 8);
+}
+
 #[test]
 fn values_of_each_kind_are_printed() {
     let slots = [

@@ -1,6 +1,6 @@
 //! A call of a runner, without the output.
 
-use crate::sheet::{programme, slots_said};
+use crate::sheet::{programme_with_floors, slots_said};
 use crate::value::OUTPUT_SLOT;
 use crate::Bytes;
 
@@ -27,9 +27,18 @@ pub fn call(store: &[u8], programme: &[u8], rule: u32) -> Call {
     }
 }
 
-/// A call with one block only.
+/// A call with one block only, its floor 0.
 pub fn call_block(store: &[u8], region: u8, code: Bytes, rule: u32) -> Call {
-    call(store, &programme(&[(region, code)]), rule)
+    call_floored(store, region, 0, code, rule)
+}
+
+/// The same with this floor.
+pub fn call_floored(store: &[u8], region: u8, floor: u8, code: Bytes, rule: u32) -> Call {
+    call(
+        store,
+        &programme_with_floors(&[(region, floor, code)]),
+        rule,
+    )
 }
 
 impl Call {

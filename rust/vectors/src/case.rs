@@ -109,6 +109,15 @@ impl Draft {
         self.blocks(&[(region, code)])
     }
 
+    /// Blocks with a floor byte each; those above have floor 0.
+    pub fn floored_blocks(self, blocks: &[FlooredBlock]) -> Draft {
+        self.programme(programme_with_floors(blocks))
+    }
+
+    pub fn floored(self, region: u8, floor: u8, code: Bytes) -> Draft {
+        self.floored_blocks(&[(region, floor, code)])
+    }
+
     pub fn rule(mut self, rule: u32) -> Draft {
         self.rule = rule;
         self

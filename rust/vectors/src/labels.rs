@@ -1,7 +1,9 @@
-//! Labels of values and targets (rules 2 and 3), and what endorsed blocks are
-//! spared. The refusal is 16; that of the branch stands in `branches`.
+//! Labels of values and targets (rules 2 and 3), and what blocks are spared that
+//! are endorsed down to the bottom. The refusal is 16; that of the branch stands
+//! in `branches`, other floors in `floors`.
 
 use crate::case::{case, Case, Draft};
+use crate::diamond::{at_or_below, name_of, OWNERS};
 use sheets::*;
 
 pub fn cases() -> Vec<Case> {
@@ -20,21 +22,8 @@ pub fn cases() -> Vec<Case> {
 const RELIABLE: &str =
     "unless the block is endorsed the labels of target and value both stand at or above the owner";
 
-/// The diamond's principals, by number.
-const OWNERS: [u8; 4] = [LEFT, RIGHT, BOTTOM, TOP];
-const NAMES: [&str; 4] = ["left", "right", "bottom", "top"];
-
-fn name_of(principal: u8) -> &'static str {
-    NAMES[usize::from(principal)]
-}
-
-/// In the diamond.
-fn at_or_below(lower: u8, upper: u8) -> bool {
-    lower == upper || lower == BOTTOM || upper == TOP
-}
-
 /// Refused by 16 at its first step, unless it passes and finishes in that step.
-fn passes_or_16(block: Draft, passes: bool, end: &[Bytes]) -> Case {
+pub fn passes_or_16(block: Draft, passes: bool, end: &[Bytes]) -> Case {
     if passes {
         block.finishes(1, end)
     } else {
@@ -143,7 +132,7 @@ fn targets() -> Vec<Case> {
                 let slots = [(from, write_view(1)), (LEFT, integer(0))];
                 case(name, RELIABLE)
                     .store(store(&DIAMOND, &slots))
-                    .block(region, assign(slot(0), literal(integer(1))))
+                    .floored(region, BOTTOM, assign(slot(0), literal(integer(1))))
                     .rule(rule)
             };
             let name = format!("{}'s target for left, rule {rule}", name_of(from));
@@ -227,8 +216,8 @@ fn meets() -> Vec<Case> {
     cases
 }
 
-/// An endorsed block is spared the judging of labels, all three, and nothing
-/// else.
+/// Where the floor is the bottom, an endorsed block is spared the judging of
+/// labels, all three, and nothing else.
 fn endorsed() -> Vec<Case> {
     let says = "unless the block is endorsed";
     let spared = |name, low, code, rule| {

@@ -16,6 +16,8 @@ mod branches;
 mod code;
 mod depth;
 mod descents;
+mod diamond;
+mod floors;
 mod labels;
 mod operations;
 mod payloads;

@@ -2,7 +2,7 @@
 
 use crate::case::Case;
 use crate::{
-    arguments, branches, code, depth, descents, labels, operations, paper, payloads,
+    arguments, branches, code, depth, descents, floors, labels, operations, paper, payloads,
     programme_sheets, steps, store_sheets, views, worked_examples,
 };
 
@@ -21,6 +21,7 @@ pub fn cases() -> Vec<Case> {
         descents::cases(),
         payloads::cases(),
         operations::cases(),
+        floors::cases(),
         paper::cases(),
     ]
     .into_iter()

@@ -7,7 +7,8 @@
 //! example describes. `compile` and `billing` are left out, since document 01
 //! has no arithmetic and no procedures: what they would work on is copied as it
 //! is, which keeps its label. Nothing else had to change; the paper has no
-//! exceptions, and its endorsed regions are document 01's endorsed blocks.
+//! exceptions, and its endorsed regions are document 01's endorsed blocks, with
+//! ⊥ as their floor (document 02, N6).
 //!
 //! Every row of the table comes out. Where the table says NP (the example is
 //! outside of what the rule set is shown to protect) it promises nothing; the
@@ -16,7 +17,7 @@
 use crate::case::{case, finished, refused, Case, Expected};
 use sheets::*;
 
-/// The paper's ⊥ and ⊤, and ⊤ endorsed.
+/// The paper's ⊥ and ⊤, and ⊤ endorsed: every floor is 0, which is ⊥.
 const LOW: u8 = 0;
 const HIGH: u8 = 1;
 const HIGH_ENDORSED: u8 = 0x81;

@@ -168,11 +168,11 @@ fn cut_literals() -> Vec<Case> {
     ]
 }
 
-/// Document 01's example as it was laid out before. In its code the first
-/// literal's payload goes on into the next literal.
+/// Document 01's example with values as they were laid out before. In its code
+/// the first literal's payload goes on into the next literal.
 fn values_of_five_bytes() -> Vec<Case> {
     let old_store = "02 0200 01000000 03000000 00 01 0005000000 0007000000";
-    let old_programme = "02 1B00 00 01 0D00 0E00 \
+    let old_programme = "02 1B00 00 01 0D00 0E00 00 00 \
         21 10 0300000000 10 002A000000 \
         21 10 0301000000 11 10 0200000000";
     vec![

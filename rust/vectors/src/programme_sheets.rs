@@ -1,5 +1,5 @@
 //! What is wrong with a programme sheet (6 to 8), what just is not, and where
-//! its blocks start.
+//! its blocks start. Its floors stand in `floors`.
 
 use crate::case::{case, Case};
 use sheets::*;
@@ -42,7 +42,7 @@ fn lengths() -> Vec<Case> {
         cut("programme of its sizes", 3).refused_early(6),
         cut("programme cut in its regions", 3 + 1).refused_early(6),
         cut("programme cut in its lengths", 3 + 2 + 3).refused_early(6),
-        cut("programme cut before its code", 3 + 2 + 4).refused_early(6),
+        cut("programme cut before its code", 3 + 2 + 4 + 2).refused_early(6),
         sheet("programme one byte short", short).refused_early(6),
         sheet("programme one byte long", join(&[&good, &[0x20]])).refused_early(6),
         // The region's principal is not below n.

@@ -136,7 +136,7 @@ fn diamond_values() -> [Bytes; 4] {
 }
 
 /// Who may write whose slot, under each rule. Rule 1 refuses the write view
-/// instead.
+/// instead. Every floor is the bottom.
 fn authority() -> Vec<Case> {
     let owners = [LEFT, RIGHT, BOTTOM, TOP];
     let slots: Vec<(u8, Bytes)> = owners.into_iter().zip(diamond_values()).collect();
@@ -144,7 +144,7 @@ fn authority() -> Vec<Case> {
         let says = "Rule 0, access control: the region must be at or above the slot's owner.";
         case(format!("{name}, rule {rule}"), says)
             .store(store(&DIAMOND, &slots))
-            .block(region, set_integer(target as i64, 9))
+            .floored(region, BOTTOM, set_integer(target as i64, 9))
             .rule(rule)
     };
     let may = [

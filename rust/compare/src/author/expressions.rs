@@ -1,16 +1,17 @@
 //! Expressions that give what is wanted of them, and any others.
 
+use super::bounds::Bound;
 use super::{slots_where, Author};
 use crate::expressions::{Expression, Operator};
 use crate::values::{Integer, Kind, Value};
 
-/// What an expression is to give: a value of this kind, with a label at or above
-/// the floor if there is one. It may be so deep, and is an operation so often, in
+/// What an expression is to give: a value of this kind, with a label within the
+/// bound. It may be so deep, and is an operation so often, in
 /// percent.
 #[derive(Debug, Clone, Copy)]
 struct Wanted {
     kind: Kind,
-    floor: Option<u8>,
+    bound: Bound,
     depth: usize,
     operations: usize,
 }
@@ -26,13 +27,13 @@ impl Wanted {
 }
 
 impl Author<'_> {
-    pub(super) fn target(&mut self, slot: u8, floor: Option<u8>) -> Expression {
+    pub(super) fn target(&mut self, slot: u8, bound: Bound) -> Expression {
         if !self.minds(self.care.kinds) {
             return self.any_expression();
         }
         let wanted = Value::WriteView(slot);
         let read = match self.random.percent(40) {
-            true => self.reading(|value| value == wanted, floor, self.most_depth),
+            true => self.reading(|value| value == wanted, bound, self.most_depth),
             false => None,
         };
         read.unwrap_or(Expression::literal(wanted))
@@ -40,28 +41,28 @@ impl Author<'_> {
 
     /// Mostly the slot keeps its kind, so that later reads find what they
     /// expect.
-    pub(super) fn value_for(&mut self, slot: u8, floor: Option<u8>) -> Expression {
+    pub(super) fn value_for(&mut self, slot: u8, bound: Bound) -> Expression {
         let kind = if self.random.percent(70) {
             self.stage.values[usize::from(slot)].kind()
         } else {
             Kind::random(self.random, self.stage.values.len())
         };
-        self.expression_of(kind, floor)
+        self.expression_of(kind, bound)
     }
 
     pub(super) fn guard(&mut self) -> Expression {
         if self.minds(self.care.kinds) {
-            self.expression_of(Kind::Truth, None)
+            self.expression_of(Kind::Truth, Bound::default())
         } else {
             self.any_expression()
         }
     }
 
-    fn expression_of(&mut self, kind: Kind, floor: Option<u8>) -> Expression {
+    fn expression_of(&mut self, kind: Kind, bound: Bound) -> Expression {
         let operations = self.random.pick(&[0, 20, 20, 20, 60, 100]);
         self.expression(Wanted {
             kind,
-            floor,
+            bound,
             depth: self.most_depth,
             operations,
         })
@@ -86,7 +87,7 @@ impl Author<'_> {
         };
         if self.random.percent(65) {
             let suits = |value: Value| value.kind() == wanted.kind && allowed(value);
-            if let Some(found) = self.reading(suits, wanted.floor, wanted.depth) {
+            if let Some(found) = self.reading(suits, wanted.bound, wanted.depth) {
                 return found;
             }
         }
@@ -173,22 +174,21 @@ impl Author<'_> {
         }
     }
 
-    /// Reads in a row that give such a value, through slots whose owners stand
-    /// at or above the floor.
+    /// Reads in a row that give such a value, through slots whose owners stay
+    /// within the bound.
     pub(super) fn reading(
         &mut self,
         wanted: impl Fn(Value) -> bool,
-        floor: Option<u8>,
+        bound: Bound,
         most: usize,
     ) -> Option<Expression> {
         if most == 0 {
             return None;
         }
+        let ends = slots_where(&self.stage.values, |_, value| wanted(value));
+        let mut slot = self.pick_within(&ends, bound)?;
         let (table, values) = (self.stage.table, &self.stage.values);
-        let high =
-            |slot| floor.is_none_or(|floor| table.lattice.at_or_below(floor, table.owner(slot)));
-        let ends = slots_where(values, |slot, value| wanted(value) && high(slot));
-        let mut slot = self.random.pick_any(&ends)?;
+        let high = |slot| bound.allows(&table.lattice, table.owner(slot));
         let mut reads = 1;
         let go_on = self.random.pick(&[30, 30, 60, 100]);
         while reads < most && self.random.percent(go_on) {

@@ -31,14 +31,14 @@ impl Author<'_> {
     /// Begins a block of any region, and gives its branch label.
     fn start_block(&mut self) -> u8 {
         self.region = self.any_region();
-        self.endorsed = self.random.one_in(4);
+        self.endorsement = self.any_endorsement(self.region, 4);
         self.stage.table.lattice.top()
     }
 
     fn block_around(&self, command: Command) -> Block {
         Block {
             region: self.region,
-            endorsed: self.endorsed,
+            endorsement: self.endorsement,
             command,
         }
     }
@@ -88,7 +88,7 @@ impl Author<'_> {
 
     /// A loop of one round, with the slot that ends it.
     fn nest_in_loop(&mut self, depth: usize, branch: u8) -> Command {
-        let Some(slot) = self.writable(branch) else {
+        let Some(slot) = self.rewritable(branch) else {
             return self.nest_in_if(depth, branch);
         };
         let start = self.played(set_truth(slot, true));

@@ -1,5 +1,6 @@
 //! Loops that end, and a few that don't.
 
+use super::bounds::Bound;
 use super::{slots_where, Author};
 use crate::code::Command;
 use crate::expressions::{Expression, Operator};
@@ -56,7 +57,7 @@ impl Author<'_> {
         let table = self.stage.table;
         let mut row: Vec<u8> = Vec::new();
         for _ in 0..self.random.between(1, 4) {
-            let Some(next) = self.writable(branch) else {
+            let Some(next) = self.rewritable(branch) else {
                 break;
             };
             let follows = row.last().is_none_or(|last| {
@@ -96,7 +97,7 @@ impl Author<'_> {
     /// A slot counts up or down until a comparison fails: at a limit, or past an
     /// end of the integers, where it comes in at the other.
     fn count_loop(&mut self, depth: usize, branch: u8) -> Command {
-        let Some(slot) = self.writable(branch) else {
+        let Some(slot) = self.rewritable(branch) else {
             return self.idle_loop(depth, branch);
         };
         let by = self.random.pick(&[1, 1, 3, 1 << 32]);
@@ -122,7 +123,7 @@ impl Author<'_> {
     /// A loop whose guard is false from the start.
     fn idle_loop(&mut self, depth: usize, branch: u8) -> Command {
         let low = Value::Truth(false);
-        let guard = self.reading(|value| value == low, None, self.most_depth);
+        let guard = self.reading(|value| value == low, Bound::default(), self.most_depth);
         self.loop_over(guard.unwrap_or(Expression::literal(low)), depth, branch)
     }
 

@@ -1,18 +1,14 @@
-//! Operations that runs work out, and steps that are refused for one. A run is
-//! followed through the steps that it did; what is met there is only counted.
+//! Operations that runs work out, and steps that are refused for one.
 
 use super::working::{Cause, Fault, Working};
-use crate::answers::Answer;
-use crate::calls::Run;
-use crate::code::{Block, Command};
-use crate::decode::{blocks_in, command_at, store_in, Side};
+use crate::code::Command;
+use crate::decode::{command_at, Side};
 use crate::expressions::{Expression, Operator};
 use crate::rehearsal::{Rehearsal, Watch};
+use crate::steps::Followed;
 use crate::tally::Checklist;
 use crate::values::{Kind, Value};
 
-/// Longer runs are followed so far only.
-const MOST_STEPS: u32 = 200;
 /// The rule that judges write views.
 const CAPABILITY: u32 = 1;
 
@@ -112,33 +108,21 @@ impl Default for Worked {
 }
 
 impl Worked {
-    /// Counts what a run does that takes place.
-    pub fn count(&mut self, run: &Run, answer: Answer) {
-        if matches!(answer.number, 0 | 13..=17) {
-            let sheets = store_in(&run.store).zip(blocks_in(&run.programme));
-            let (store, blocks) = sheets.expect("the sheets of a run that takes place are good");
-            let stage = Rehearsal {
-                table: &store.table,
-                values: store.values.clone(),
-            };
-            self.count_steps(run, answer, stage, &blocks);
-        }
-    }
-
-    fn count_steps(&mut self, run: &Run, answer: Answer, mut stage: Rehearsal, blocks: &[Block]) {
-        let mut steps_left = answer.steps.min(MOST_STEPS);
-        for block in blocks {
-            if stage.go(&block.command, &mut steps_left, self).is_none() {
-                break;
-            }
-        }
-        if answer.steps > MOST_STEPS || !matches!(answer.number, 13 | 15) {
+    /// Counts the step by which a run is refused, at this stage.
+    pub fn count_refused(&mut self, followed: &Followed, stage: &Rehearsal) {
+        let Followed {
+            run,
+            answer,
+            blocks,
+            ..
+        } = followed;
+        if !followed.is_whole() || !matches!(answer.number, 13 | 15) {
             return;
         }
         let refused = command_at(&run.programme, answer.block, answer.offset);
         let region = blocks[answer.block].region;
         let capability = (run.rule == CAPABILITY).then_some(region);
-        let fault = refused.and_then(|command| fault_of(&stage, capability, &command));
+        let fault = refused.and_then(|command| fault_of(stage, capability, &command));
         if let Some(fault) = fault.filter(|fault| fault.number() == answer.number) {
             sorts(&fault)
                 .into_iter()
@@ -221,7 +205,7 @@ fn fault_of(stage: &Rehearsal, capability: Option<u8>, command: &Command) -> Opt
 #[cfg(test)]
 mod tests {
     use super::*;
-    use crate::code::programme_sheet;
+    use crate::code::{programme_sheet, Block};
     use crate::play_runs::plain_run;
     use crate::sheets::plain_store;
 
@@ -234,15 +218,13 @@ mod tests {
     fn counted(expression: Expression, rule: u32) -> Worked {
         let mut store = plain_store(2, 2);
         store.table.owners[1] = 1;
-        let block = Block {
-            region: 0,
-            endorsed: false,
-            command: Command::set(0, expression),
-        };
+        let block = Block::plain(0, Command::set(0, expression));
         let sheet = programme_sheet(&[block]).bytes;
         let run = plain_run(&store.bytes(), &sheet, rule);
+        let followed = Followed::of(&run, run.second().answer).expect("it takes place");
         let mut worked = Worked::default();
-        worked.count(&run, run.second().answer);
+        let stage = followed.play(&mut worked);
+        worked.count_refused(&followed, &stage);
         worked
     }
 

@@ -3,7 +3,8 @@
 
 use std::fmt::{self, Display, Formatter};
 
-use super::tainted::Tainted;
+use super::endorsed::Floors;
+use super::tainted::Operands;
 
 /// The rule numbers of the two runs of a pair.
 #[derive(Debug, Clone, Copy, PartialEq, Eq)]
@@ -60,34 +61,7 @@ pub struct Counts {
     /// a tainted operand.
     pub leaked_with_operation: u64,
     pub operands: Operands,
-}
-
-/// Finished pairs in which an operation outside the adversary's reach has just
-/// these operands tainted.
-#[derive(Debug, Clone, Copy, Default)]
-pub struct Operands {
-    left: u64,
-    right: u64,
-    both: u64,
-}
-
-impl Operands {
-    pub fn count(&mut self, tainted: Tainted) {
-        self.left += u64::from(tainted.left);
-        self.right += u64::from(tainted.right);
-        self.both += u64::from(tainted.both);
-    }
-
-    fn all_came_up(&self) -> bool {
-        ![self.left, self.right, self.both].contains(&0)
-    }
-}
-
-impl Display for Operands {
-    fn fmt(&self, out: &mut Formatter) -> fmt::Result {
-        let Operands { left, right, both } = self;
-        write!(out, "{left} left, {right} right, {both} both")
-    }
+    pub floors: Floors,
 }
 
 impl Display for Counts {
@@ -100,13 +74,14 @@ impl Display for Counts {
             leaked,
             leaked_with_operation,
             operands,
+            floors,
         } = self;
         write!(
             out,
             "{finished} pairs finish; {written} of them write a protected slot, \
              {told_apart} end differently in some slot, {by_high_bytes} in one by its high \
              bytes alone, {leaked} in a protected one, {leaked_with_operation} of these with a \
-             tainted operand; tainted operands: {operands}"
+             tainted operand; tainted operands: {operands}; endorsed out of reach: {floors}"
         )
     }
 }
@@ -114,18 +89,25 @@ impl Display for Counts {
 /// A condition of demand 3 that a pair is made without.
 #[derive(Debug, Clone, Copy, PartialEq, Eq)]
 pub(super) enum Without {
-    /// The blocks outside the adversary's reach are not endorsed.
-    Unendorsed,
-    /// They are the same in both replacements.
+    /// No endorsed block outside the adversary's reach has the adversary as floor.
+    NoFloorAt,
+    /// None has a floor below the adversary.
+    NoFloorBelow,
+    /// The blocks outside reach are the same in both replacements.
     Unchanged,
 }
 
 impl Without {
-    pub const ALL: [Without; 2] = [Without::Unendorsed, Without::Unchanged];
+    pub const ALL: [Without; 3] = [
+        Without::NoFloorAt,
+        Without::NoFloorBelow,
+        Without::Unchanged,
+    ];
 
     fn words(self) -> &'static str {
         match self {
-            Without::Unendorsed => "rule 3, blocks out of reach may be endorsed",
+            Without::NoFloorAt => "rule 3, floors out of reach may be the adversary",
+            Without::NoFloorBelow => "rule 3, floors out of reach may stand below the adversary",
             Without::Unchanged => "rule 3, blocks out of reach may be replaced",
         }
     }
@@ -189,7 +171,15 @@ impl Played {
         answers
             .chain(self.complaints_of_high_bytes())
             .chain(self.complaints_of_operations())
+            .chain(self.complaints_of_floors())
             .collect()
+    }
+
+    fn complaints_of_floors(&self) -> impl Iterator<Item = String> + '_ {
+        let few = self.rules().filter(|(rules, counts)| {
+            rules.isolate() && !counts.floors.are_enough(counts.finished)
+        });
+        few.map(|(rules, _)| format!("{rules}: too few pairs in which floors count, or too many"))
     }
 
     fn complaints_of_operations(&self) -> Vec<String> {
@@ -219,10 +209,10 @@ impl Played {
 mod tests {
     use super::*;
 
-    #[test]
-    fn what_is_never_seen_is_told() {
-        let all = Counts {
-            finished: 1,
+    /// Counts with which nothing is wrong.
+    fn all() -> Counts {
+        Counts {
+            finished: 2,
             told_apart: 1,
             by_high_bytes: 1,
             written: 1,
@@ -233,14 +223,27 @@ mod tests {
                 right: 1,
                 both: 1,
             },
-        };
-        let mut played = Played {
+            floors: Floors {
+                endorsed: 1,
+                above: 1,
+                beside: 1,
+            },
+        }
+    }
+
+    fn all_played() -> Played {
+        Played {
             pairs: 1,
-            rules: [all; Rules::ALL.len()],
-            without: [all; Without::ALL.len()],
+            rules: [all(); Rules::ALL.len()],
+            without: [all(); Without::ALL.len()],
             shown: 1,
             shown_by_high_bytes: 1,
-        };
+        }
+    }
+
+    #[test]
+    fn what_is_never_seen_is_told() {
+        let mut played = all_played();
         assert!(played.complaints().is_empty());
         played.shown = 0;
         played.without = Default::default();
@@ -256,5 +259,37 @@ mod tests {
         played.rules[2].leaked_with_operation = 0;
         let more = more + 2;
         assert_eq!(played.complaints().len(), 1 + Without::ALL.len() + more);
+    }
+
+    /// Each condition that is left out has to let something through by itself.
+    #[test]
+    fn a_condition_that_is_not_needed_is_told() {
+        for (place, without) in Without::ALL.into_iter().enumerate() {
+            let mut played = all_played();
+            played.without[place].leaked = 0;
+            let words = format!(
+                "{}: no pair ends differently where protected",
+                without.words()
+            );
+            assert_eq!(played.complaints(), [words]);
+        }
+    }
+
+    #[test]
+    fn floors_that_do_not_count_are_told() {
+        let changes: [fn(&mut Floors); 4] = [
+            |floors| floors.endorsed = 0,
+            |floors| floors.endorsed = 2,
+            |floors| floors.above = 0,
+            |floors| floors.beside = 0,
+        ];
+        for change in changes {
+            let mut played = all_played();
+            let all = played.rules.iter_mut();
+            all.for_each(|counts| change(&mut counts.floors));
+            let complaints = played.complaints();
+            assert_eq!(complaints.len(), Rules::isolating().count());
+            assert!(complaints.iter().all(|words| words.contains("floors")));
+        }
     }
 }

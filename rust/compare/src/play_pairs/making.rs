@@ -2,6 +2,7 @@
 
 use super::counts::Without;
 use super::pair::{is_protected, Pair};
+use super::terms::{same_again, Terms};
 use crate::author::{Author, Care};
 use crate::code::Block;
 use crate::lattices::Lattice;
@@ -12,7 +13,8 @@ use crate::values::{Kind, Value};
 
 impl Pair {
     pub fn random(random: &mut Random, without: Option<Without>) -> Pair {
-        let (adversary, table) = random_table(random);
+        let endorses = random.percent(70);
+        let (adversary, table) = random_table(random, without, endorses);
         let first = Store::with_table(random, table);
         let second = altered(random, &first, adversary);
         let stores = [first, second];
@@ -22,7 +24,12 @@ impl Pair {
             branches: random.pick(&[100, 60, 0]),
             ..Care::FULL
         };
-        let replacements = random_replacements(random, &stores, adversary, care, without);
+        let terms = Terms {
+            adversary,
+            without,
+            endorses,
+        };
+        let replacements = random_replacements(random, &stores, care, terms);
         let budgets = [random_budget(random), random_budget(random)];
         Pair {
             adversary,
@@ -48,16 +55,24 @@ impl Pair {
     }
 }
 
-/// An adversary that isn't the top, and some slots.
-fn random_table(random: &mut Random) -> (u8, Table) {
-    let lattice = loop {
+/// An adversary that isn't the top, nor the bottom where something is to stand
+/// below it, and some slots. Where blocks may be endorsed, two principals or more
+/// stand beside the adversary: a floor and an owner that is not below it.
+fn random_table(random: &mut Random, without: Option<Without>, endorses: bool) -> (u8, Table) {
+    let least = if endorses { 3 } else { 2 };
+    let (adversary, lattice) = loop {
         let lattice = Lattice::random(random);
-        if lattice.principals() > 1 {
-            break lattice;
+        if lattice.principals() < least {
+            continue;
+        }
+        let mut adversaries = lattice.principals_where(|principal| principal != lattice.top());
+        if without == Some(Without::NoFloorBelow) {
+            adversaries.retain(|principal| *principal != lattice.bottom());
+        }
+        if let Some(adversary) = random.pick_any(&adversaries) {
+            break (adversary, lattice);
         }
     };
-    let top = lattice.top();
-    let adversary = random.pick(&lattice.principals_where(|principal| principal != top));
     let slots = random.between(2, 12);
     (adversary, Table::with_slots(random, lattice, slots))
 }
@@ -101,15 +116,13 @@ fn random_budget(random: &mut Random) -> u32 {
     }
 }
 
-/// Two replacements of a programme with no endorsed block. They share the
-/// blocks outside the adversary's reach and now and then one within it, unless
-/// a condition is left out.
+/// Two replacements of a programme. They share the blocks outside the adversary's
+/// reach and now and then one within it, unless a condition is left out.
 fn random_replacements(
     random: &mut Random,
     stores: &[Store; 2],
-    adversary: u8,
     care: Care,
-    without: Option<Without>,
+    terms: Terms,
 ) -> [Vec<Block>; 2] {
     let mut other_random = random.split();
     let mut one = Author::new(random, &stores[0], care);
@@ -118,20 +131,17 @@ fn random_replacements(
     for _ in 0..random_count(one.random()) {
         let within = one.random().one_in(2);
         let block = match within {
-            true => block_within_reach(&mut one, adversary),
-            false => block_outside_reach(&mut one, adversary, without),
+            true => terms.block_within_reach(&mut one),
+            false => terms.block_outside_reach(&mut one),
         };
         let again = match within {
             true => one.random().one_in(6),
-            false => without != Some(Without::Unchanged) || one.random().one_in(2),
+            false => terms.without != Some(Without::Unchanged) || one.random().one_in(2),
         };
         let in_its_place = match (again, within) {
-            (true, _) => {
-                other.watch(&block);
-                block.clone()
-            }
-            (false, true) => block_within_reach(&mut other, adversary),
-            (false, false) => block_outside_reach(&mut other, adversary, without),
+            (true, _) => same_again(&mut other, &block),
+            (false, true) => terms.block_within_reach(&mut other),
+            (false, false) => terms.block_outside_reach(&mut other),
         };
         replacements[0].push(block);
         replacements[1].push(in_its_place);
@@ -148,27 +158,15 @@ fn random_count(random: &mut Random) -> usize {
     }
 }
 
-fn block_within_reach(author: &mut Author, adversary: u8) -> Block {
-    let lattice = &author.table().lattice;
-    let regions = lattice.principals_where(|region| lattice.at_or_below(region, adversary));
-    let region = author.random().pick(&regions);
-    let endorsed = author.random().one_in(2);
-    author.block(region, endorsed)
-}
-
-fn block_outside_reach(author: &mut Author, adversary: u8, without: Option<Without>) -> Block {
-    let lattice = &author.table().lattice;
-    let regions = lattice.principals_where(|region| !lattice.at_or_below(region, adversary));
-    let region = author.random().pick(&regions);
-    let endorsed = without == Some(Without::Unendorsed) && author.random().one_in(2);
-    author.block(region, endorsed)
-}
-
 #[cfg(test)]
 mod tests {
     use super::*;
-    use crate::code::programme_sheet;
-    use std::slice;
+    use crate::code::Command;
+
+    /// What makes a block what it is: not the byte for a floor that is ignored.
+    fn meaning(block: &Block) -> (u8, Option<u8>, &Command) {
+        (block.region, block.endorsement.floor(), &block.command)
+    }
 
     #[test]
     fn a_pair_differs_only_where_the_adversary_reaches() {
@@ -181,16 +179,64 @@ mod tests {
                 .all(|slot| one.values[slot] == other.values[slot]));
             let [blocks, others] = &pair.replacements;
             assert_eq!(blocks.len(), others.len());
+            let within = |block: &Block| is_below(&pair, block.region);
             for (block, other) in blocks.iter().zip(others) {
-                let within = |block: &Block| {
-                    let lattice = &one.table.lattice;
-                    lattice.at_or_below(block.region, pair.adversary)
-                };
                 assert_eq!(within(block), within(other));
-                let sheet = |block| programme_sheet(slice::from_ref(block)).bytes;
-                let same = sheet(block) == sheet(other);
-                assert!(within(block) || same && !block.endorsed);
+                assert!(within(block) || meaning(block) == meaning(other));
             }
         }
+    }
+
+    fn is_below(pair: &Pair, principal: u8) -> bool {
+        let lattice = &pair.stores[0].table.lattice;
+        lattice.at_or_below(principal, pair.adversary)
+    }
+
+    /// How the floors of blocks stand to the adversary, for blocks within its reach
+    /// and others: at it, below it, neither.
+    fn floors(without: Option<Without>) -> [[usize; 3]; 2] {
+        let mut seen = [[0; 3]; 2];
+        for case in 0..500 {
+            let pair = Pair::random(&mut Random::of_case(29, case), without);
+            for block in pair.replacements.iter().flatten() {
+                let outside = usize::from(!is_below(&pair, block.region));
+                match block.endorsement.floor() {
+                    Some(floor) if floor == pair.adversary => seen[outside][0] += 1,
+                    Some(floor) if is_below(&pair, floor) => seen[outside][1] += 1,
+                    Some(_) => seen[outside][2] += 1,
+                    None => (),
+                }
+            }
+        }
+        seen
+    }
+
+    #[test]
+    fn floors_outside_reach_keep_to_the_terms() {
+        let known = [
+            (None, [false, false, true]),
+            (Some(Without::NoFloorAt), [true, false, true]),
+            (Some(Without::NoFloorBelow), [false, true, true]),
+            (Some(Without::Unchanged), [false, false, true]),
+        ];
+        for (without, outside) in known {
+            let seen = floors(without).map(|counts| counts.map(|count| count > 0));
+            assert_eq!(seen, [[true; 3], outside], "{without:?}");
+        }
+    }
+
+    #[test]
+    fn some_pairs_have_no_endorsed_block_and_some_ignored_bytes_differ() {
+        let (mut plain, mut unlike) = (0, 0);
+        for case in 0..500 {
+            let pair = Pair::random(&mut Random::of_case(30, case), None);
+            let [blocks, others] = &pair.replacements;
+            let outside = |block: &&Block| !is_below(&pair, block.region);
+            let mut shared = blocks.iter().filter(outside);
+            plain += usize::from(shared.all(|block| block.endorsement.floor().is_none()));
+            let mut both = blocks.iter().zip(others).filter(|(one, _)| outside(one));
+            unlike += usize::from(both.any(|(one, other)| one.endorsement != other.endorsement));
+        }
+        assert!(plain > 100 && unlike > 100, "{plain} {unlike}");
     }
 }

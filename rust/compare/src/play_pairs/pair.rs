@@ -3,6 +3,8 @@
 use std::fmt::{self, Display, Formatter};
 
 use super::counts::{Counts, Rules};
+use super::endorsed::{self, Endorsed};
+use super::tainted::{self, Tainted};
 use super::Stopped;
 use crate::calls::{Call, Run, Seen};
 use crate::code::{programme_sheet, Block};
@@ -51,8 +53,9 @@ impl Pair {
         counts.told_apart += u64::from(ends[0].output() != ends[1].output());
         counts.by_high_bytes += u64::from(self.told_apart_by_high_bytes(&ends));
         counts.written += u64::from(self.wrote_protected(&ends));
-        let tainted = self.tainted(0, ends[0].answer.steps) | self.tainted(1, ends[1].answer.steps);
+        let (tainted, endorsed) = self.watched(&ends);
         counts.operands.count(tainted);
+        counts.floors.count(endorsed);
         let Some(slot) = self.leak(&ends) else {
             return Ok(None);
         };
@@ -73,6 +76,18 @@ impl Pair {
             Some(_) => Ok(()),
             None => Err(Stopped::Hides(Box::new(self.calls(rules)))),
         }
+    }
+
+    /// What is met in these runs, which finish.
+    fn watched(&self, ends: &[Seen; 2]) -> (Tainted, Endorsed) {
+        let mut tainted = tainted::Watcher::new(self.adversary);
+        let mut endorsed = endorsed::Watcher::new(self.adversary);
+        for (side, end) in ends.iter().enumerate() {
+            let mut stage = self.stores[side].stage();
+            let watch = &mut (&mut tainted, &mut endorsed);
+            stage.follow(&self.replacements[side], end.answer.steps, watch);
+        }
+        (tainted.found, endorsed.found)
     }
 
     fn calls(&self, rules: Rules) -> [Call; 2] {

@@ -2,14 +2,11 @@
 //! tainted: labels that stand at or below the adversary. Where one alone is, the
 //! label of the other would let what comes of both into a protected slot.
 
-use std::ops::BitOr;
+use std::fmt::{self, Display, Formatter};
 
-use super::pair::Pair;
+use crate::code::Block;
 use crate::expressions::Expression;
 use crate::rehearsal::{Rehearsal, Watch};
-
-/// Longer runs are followed so far only.
-const MOST_STEPS: u32 = 200;
 
 /// Whether some operation has just these operands tainted.
 #[derive(Debug, Clone, Copy, Default, PartialEq, Eq)]
@@ -25,24 +22,50 @@ impl Tainted {
     }
 }
 
-impl BitOr for Tainted {
-    type Output = Tainted;
+/// Finished pairs in which an operation outside the adversary's reach has just
+/// these operands tainted.
+#[derive(Debug, Clone, Copy, Default)]
+pub struct Operands {
+    pub left: u64,
+    pub right: u64,
+    pub both: u64,
+}
 
-    fn bitor(self, other: Tainted) -> Tainted {
-        Tainted {
-            left: self.left || other.left,
-            right: self.right || other.right,
-            both: self.both || other.both,
-        }
+impl Operands {
+    pub fn count(&mut self, tainted: Tainted) {
+        self.left += u64::from(tainted.left);
+        self.right += u64::from(tainted.right);
+        self.both += u64::from(tainted.both);
+    }
+
+    pub fn all_came_up(&self) -> bool {
+        ![self.left, self.right, self.both].contains(&0)
     }
 }
 
-struct Watcher {
+impl Display for Operands {
+    fn fmt(&self, out: &mut Formatter) -> fmt::Result {
+        let Operands { left, right, both } = self;
+        write!(out, "{left} left, {right} right, {both} both")
+    }
+}
+
+/// Looks on for one adversary while runs are followed.
+pub struct Watcher {
     adversary: u8,
-    found: Tainted,
+    outside: bool,
+    pub found: Tainted,
 }
 
 impl Watcher {
+    pub fn new(adversary: u8) -> Watcher {
+        Watcher {
+            adversary,
+            outside: false,
+            found: Tainted::default(),
+        }
+    }
+
     fn is_tainted(&self, stage: &Rehearsal, operand: &Expression) -> bool {
         let lattice = &stage.table.lattice;
         let worked = stage.evaluate(operand);
@@ -51,56 +74,31 @@ impl Watcher {
 }
 
 impl Watch for Watcher {
+    fn enters(&mut self, stage: &Rehearsal, block: &Block) {
+        let lattice = &stage.table.lattice;
+        self.outside = !lattice.at_or_below(block.region, self.adversary);
+    }
+
     fn sees(&mut self, stage: &Rehearsal, expression: &Expression) {
         match expression {
+            _ if !self.outside => (),
             Expression::Literal(_) => (),
             Expression::Read(view) => self.sees(stage, view),
             Expression::Operation(_, operands) => {
                 let [left, right] = [0, 1].map(|side| self.is_tainted(stage, &operands[side]));
-                self.found = self.found
-                    | Tainted {
-                        left: left && !right,
-                        right: right && !left,
-                        both: left && right,
-                    };
+                self.found.left |= left && !right;
+                self.found.right |= right && !left;
+                self.found.both |= left && right;
                 operands.iter().for_each(|inner| self.sees(stage, inner));
             }
         }
     }
 }
 
-impl Pair {
-    /// What one of the runs works out that finishes in so many steps.
-    pub fn tainted(&self, side: usize, steps: u32) -> Tainted {
-        let store = &self.stores[side];
-        let (table, adversary) = (&store.table, self.adversary);
-        let mut stage = Rehearsal {
-            table,
-            values: store.values.clone(),
-        };
-        let mut watcher = Watcher {
-            adversary,
-            found: Tainted::default(),
-        };
-        let mut steps_left = steps.min(MOST_STEPS);
-        for block in &self.replacements[side] {
-            let within = table.lattice.at_or_below(block.region, adversary);
-            let watch: &mut dyn Watch = match within {
-                true => &mut (),
-                false => &mut watcher,
-            };
-            if stage.go(&block.command, &mut steps_left, watch).is_none() {
-                break;
-            }
-        }
-        watcher.found
-    }
-}
-
 #[cfg(test)]
 mod tests {
     use super::*;
-    use crate::code::{Block, Command};
+    use crate::code::Command;
     use crate::expressions::Operator;
     use crate::sheets::plain_store;
 
@@ -119,23 +117,18 @@ mod tests {
         for ([one, other], [left, right, both]) in known {
             let sum = Expression::operation(Operator::Sum, one.clone(), other.clone());
             for region in [0, 1] {
-                let block = Block {
-                    region,
-                    endorsed: false,
-                    command: Command::set(0, sum.clone()),
-                };
-                let pair = Pair {
-                    adversary: 0,
-                    stores: [store.clone(), store.clone()],
-                    replacements: [vec![block.clone()], vec![block]],
-                    budgets: [1, 1],
+                let blocks = [Block::plain(region, Command::set(0, sum.clone()))];
+                let found = |steps| {
+                    let mut watcher = Watcher::new(0);
+                    store.stage().follow(&blocks, steps, &mut watcher);
+                    watcher.found
                 };
                 let expected = match region {
                     0 => Tainted::default(),
                     _ => Tainted { left, right, both },
                 };
-                assert_eq!(pair.tainted(0, 1), expected);
-                assert_eq!(pair.tainted(1, 0), Tainted::default());
+                assert_eq!(found(1), expected);
+                assert_eq!(found(0), Tainted::default());
             }
         }
     }

@@ -4,6 +4,9 @@
 // Each test file uses its own share of this.
 #![allow(dead_code)]
 
+pub mod flows;
+pub mod views;
+
 use sheets::*;
 
 /// A fixed stream of numbers (xorshift), so that a failure comes again.
@@ -49,14 +52,75 @@ impl Random {
         OPERATIONS[self.below(OPERATIONS.len())]
     }
 
+    /// A floor byte for a block: some principal, and where the block is not
+    /// endorsed now and then n, FF or any other byte.
+    pub fn floor(&mut self, principals: usize, endorsed: bool) -> u8 {
+        match self.below(8) {
+            0 if !endorsed => principals as u8,
+            1 if !endorsed => 0xFF,
+            2 if !endorsed => self.next() as u8,
+            _ => self.below(principals) as u8,
+        }
+    }
+
     pub fn bytes(&mut self, most: usize) -> Bytes {
         let length = self.below(most + 1);
         (0..length).map(|_| self.next() as u8).collect()
     }
 }
 
-/// Good tables: one principal, two ways to number a pair, a diamond, a chain.
-pub const TABLES: [&[u32]; 5] = [&[1], &PAIR, &[0b11, 0b10], &DIAMOND, &[0b111, 0b110, 0b100]];
+/// Region bytes from here on are of endorsed blocks.
+pub const ENDORSED: u8 = 0x80;
+
+/// A region byte, which says whether the block is endorsed.
+pub fn region_byte(principal: u8, endorsed: bool) -> u8 {
+    principal + if endorsed { ENDORSED } else { 0 }
+}
+
+pub fn is_endorsed(block: &FlooredBlock) -> bool {
+    block.0 >= ENDORSED
+}
+
+/// The principal for which a block runs.
+pub fn region(block: &FlooredBlock) -> u8 {
+    block.0 % ENDORSED
+}
+
+pub fn stands_below(masks: &[u32], lower: u8, upper: u8) -> bool {
+    masks[usize::from(upper)] >> lower & 1 == 1
+}
+
+pub fn principals(masks: &[u32]) -> impl Iterator<Item = u8> + Clone {
+    0..masks.len() as u8
+}
+
+/// The principal that is above all, or below all.
+fn end_of(masks: &[u32], stands: fn(&[u32], u8, u8) -> bool) -> u8 {
+    let mut all = principals(masks);
+    let end = all.find(|one| principals(masks).all(|other| stands(masks, *one, other)));
+    end.expect("a good table")
+}
+
+pub fn top(masks: &[u32]) -> u8 {
+    end_of(masks, |masks, upper, lower| {
+        stands_below(masks, lower, upper)
+    })
+}
+
+pub fn bottom(masks: &[u32]) -> u8 {
+    end_of(masks, stands_below)
+}
+
+/// Good tables: one principal, two ways to number a pair, a diamond, a kite, a
+/// chain.
+pub const TABLES: [&[u32]; 6] = [
+    &[1],
+    &PAIR,
+    &[0b11, 0b10],
+    &DIAMOND,
+    &KITE,
+    &[0b111, 0b110, 0b100],
+];
 
 /// Sheets built by the grammar for a store of this many slots.
 struct Maker {
@@ -153,33 +217,35 @@ impl Maker {
         }
     }
 
-    /// For each block a region byte and its code.
-    fn programme(&mut self) -> Vec<(u8, Bytes)> {
+    fn programme(&mut self) -> Vec<FlooredBlock> {
         let mut blocks = Vec::new();
         for _ in 0..self.random.below(4) {
             let principal = self.random.below(self.principals) as u8;
-            let endorsed = if self.random.one_in(4) { 0x80 } else { 0 };
-            blocks.push((principal | endorsed, self.command(3)));
+            let endorsed = self.random.one_in(3);
+            let floor = self.random.floor(self.principals, endorsed);
+            let region = region_byte(principal, endorsed);
+            blocks.push((region, floor, self.command(3)));
         }
         blocks
     }
 }
 
 /// The parts of a call whose sheets are good.
+#[derive(Clone)]
 pub struct Parts {
     pub masks: &'static [u32],
     /// For each slot its owner and its value.
     pub slots: Vec<(u8, Bytes)>,
-    /// For each block its region byte and its code.
-    pub blocks: Vec<(u8, Bytes)>,
+    pub blocks: Vec<FlooredBlock>,
     pub rule: u32,
     pub budget: u32,
 }
 
 impl Parts {
     pub fn call(&self) -> Call {
-        let sheets = (store(self.masks, &self.slots), programme(&self.blocks));
-        call(&sheets.0, &sheets.1, self.rule).budget(self.budget)
+        let store = store(self.masks, &self.slots);
+        let programme = programme_with_floors(&self.blocks);
+        call(&store, &programme, self.rule).budget(self.budget)
     }
 }
 

@@ -4,6 +4,7 @@
 
 use super::{name_of, number};
 use crate::case::{case, Case, Draft};
+use crate::diamond::{at_or_below, name_of as owner_name, OWNERS};
 use sheets::*;
 
 pub fn cases() -> Vec<Case> {
@@ -20,19 +21,7 @@ pub fn cases() -> Vec<Case> {
 
 const MEET: &str = "The label is the meet of both labels.";
 
-/// The diamond's principals; each owns the slot of its number.
-const OWNERS: [u8; 4] = [LEFT, RIGHT, BOTTOM, TOP];
-const NAMES: [&str; 4] = ["left", "right", "bottom", "top"];
-
-fn owner_name(principal: u8) -> &'static str {
-    NAMES[usize::from(principal)]
-}
-
-/// In the diamond.
-fn at_or_below(lower: u8, upper: u8) -> bool {
-    lower == upper || lower == BOTTOM || upper == TOP
-}
-
+/// What a principal's slot holds: each owns the slot of its number.
 fn of(principal: u8) -> Bytes {
     slot(i64::from(principal))
 }
@@ -48,12 +37,13 @@ fn with(principal: u8, value: Bytes) -> [Bytes; 4] {
     end
 }
 
-/// A block over slots that hold the numbers of their owners.
+/// A block over slots that hold the numbers of their owners. Its floor is the
+/// bottom.
 fn block(name: impl Into<String>, region: u8, code: Bytes, rule: u32) -> Draft {
     let slots: Vec<(u8, Bytes)> = OWNERS.into_iter().zip(opening()).collect();
     case(name, MEET)
         .store(store(&DIAMOND, &slots))
-        .block(region, code)
+        .floored(region, BOTTOM, code)
         .rule(rule)
 }
 
@@ -192,7 +182,7 @@ fn reads_in_operands() -> Vec<Case> {
     cases.collect()
 }
 
-/// Rules 0 and 1 judge no label, and an endorsed block is spared.
+/// Rules 0 and 1 judge no label, and a block endorsed down to the bottom is spared.
 fn not_judged() -> Vec<Case> {
     let code = || set(i64::from(TOP), sum(of(LEFT), of(RIGHT)));
     let end = with(TOP, integer(1));
