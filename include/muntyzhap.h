@@ -51,7 +51,8 @@ extern "C" {
 #define MUNTYZHAP_PROGRAMME_LENGTH 6
 /* Its number of blocks or of code bytes is outside its limit. */
 #define MUNTYZHAP_PROGRAMME_LIMITS 7
-/* A block's region is not one of the principals. */
+/* A block's region, or an endorsed block's floor, is not one of the principals.
+ * Which of the two, and in which block, the answer does not tell. */
 #define MUNTYZHAP_REGION 8
 /* Unknown byte, bad count or literal, code that ends early, bytes left over. */
 #define MUNTYZHAP_ILL_FORMED_CODE 9
@@ -78,7 +79,9 @@ extern "C" {
 /* A literal or the result of a read, in an operand too, that is a write view
  * whose slot's owner does not stand at or below the region. */
 #define MUNTYZHAP_WRITE_VIEW_NOT_ALLOWED 15
-/* A label does not stand at or above the slot's owner. */
+/* The meet of the labels of target, value and, under rule 3, branch stands
+ * neither at or above the slot's owner nor, in an endorsed block, at or above
+ * the block's floor. */
 #define MUNTYZHAP_PROVENANCE_TOO_LOW 16
 /* The budget is spent. */
 #define MUNTYZHAP_BUDGET_SPENT 17
@@ -87,7 +90,11 @@ extern "C" {
 
 #define MUNTYZHAP_ACCESS_CONTROL 0
 #define MUNTYZHAP_CAPABILITY 1
+/* The rules of provenance judge labels; they alone look at whether a block is
+ * endorsed, and down to which floor. */
 #define MUNTYZHAP_EXPLICIT_PROVENANCE 2
+/* Its isolation from an adversary holds where no endorsed block outside the
+ * adversary's reach has a floor at or below the adversary. */
 #define MUNTYZHAP_FULL_PROVENANCE 3
 /* The default rule, which document 01 calls the house rule: full provenance. */
 #define MUNTYZHAP_DEFAULT 255
@@ -118,7 +125,16 @@ extern "C" {
 /* The payload of a view is the number of a slot. */
 #define MUNTYZHAP_KIND_READ_VIEW 2
 #define MUNTYZHAP_KIND_WRITE_VIEW 3
-/* What a region byte has besides its principal when the block is endorsed. */
+
+/* A programme sheet starts with its sizes, the number of blocks in one byte and
+ * of code bytes in two. Then come three arrays with an entry for each block:
+ * its region in one byte, its length in two, its floor in one; then the code.
+ * What comes from its floor, a principal, or from above it, an endorsed block
+ * may write to any slot that its region may write. The floor byte of a block
+ * that is not endorsed may be any, and means nothing. */
+
+/* What a region byte has besides its principal when the block is endorsed. A
+ * floor byte is its principal's number and nothing besides. */
 #define MUNTYZHAP_ENDORSED 0x80
 
 /* First bytes of expressions */

@@ -26,17 +26,10 @@ static const struct slot slots[SLOTS] = {
     [OFFSET] = {LABORATORY, MUNTYZHAP_KIND_INTEGER, 405},
 };
 
-/* The start of an assignment to a slot; a value expression follows. */
-static void put_assignment(struct bytes *code, uint8_t slot)
-{
-    put_byte(code, MUNTYZHAP_ASSIGNMENT);
-    put_literal(code, MUNTYZHAP_KIND_WRITE_VIEW, slot);
-}
-
 /* measured := its age */
 static struct block customer_block(void)
 {
-    struct block block = {CUSTOMER, {{0}, 0}};
+    struct block block = plain_block(CUSTOMER);
 
     put_assignment(&block.code, MEASURED);
     put_literal(&block.code, MUNTYZHAP_KIND_INTEGER, AGE);
@@ -47,7 +40,7 @@ static struct block customer_block(void)
  * else corrected := measured - offset */
 static struct block correcting_block(void)
 {
-    struct block block = {LABORATORY, {{0}, 0}};
+    struct block block = plain_block(LABORATORY);
 
     put_byte(&block.code, MUNTYZHAP_IF);
     put_byte(&block.code, MUNTYZHAP_LESS_THAN);
@@ -67,7 +60,7 @@ static struct block correcting_block(void)
 /* offset := offset + (measured - expected) */
 static struct block moving_block(void)
 {
-    struct block block = {LABORATORY, {{0}, 0}};
+    struct block block = plain_block(LABORATORY);
 
     put_assignment(&block.code, OFFSET);
     put_byte(&block.code, MUNTYZHAP_SUM);

@@ -32,9 +32,10 @@ static const char *meaning(uint32_t answer)
 {
     if (answer != MUNTYZHAP_PROVENANCE_TOO_LOW)
         return "see muntyzhap.h";
-    return "provenance too low: the label of the target, of the value or, "
-           "under rule 3, of the branch does not stand at or above the owner "
-           "of the slot to be written";
+    return "provenance too low: the meet of the labels of target, value and, "
+           "under rule 3, branch stands neither at or above the owner of the "
+           "slot to be written nor, if the block is endorsed, at or above its "
+           "floor";
 }
 
 static int untouched(const uint8_t *out, size_t length)

@@ -27,10 +27,9 @@ static const struct slot slots[SLOTS] = {
 /* sample := its ratio */
 static struct block customer_block(void)
 {
-    struct block block = {CUSTOMER, {{0}, 0}};
+    struct block block = plain_block(CUSTOMER);
 
-    put_byte(&block.code, MUNTYZHAP_ASSIGNMENT);
-    put_literal(&block.code, MUNTYZHAP_KIND_WRITE_VIEW, SAMPLE);
+    put_assignment(&block.code, SAMPLE);
     put_literal(&block.code, MUNTYZHAP_KIND_INTEGER, RATIO);
     return block;
 }
@@ -38,10 +37,9 @@ static struct block customer_block(void)
 /* report := what sample holds */
 static struct block laboratory_block(void)
 {
-    struct block block = {LABORATORY, {{0}, 0}};
+    struct block block = plain_block(LABORATORY);
 
-    put_byte(&block.code, MUNTYZHAP_ASSIGNMENT);
-    put_literal(&block.code, MUNTYZHAP_KIND_WRITE_VIEW, REPORT);
+    put_assignment(&block.code, REPORT);
     put_read(&block.code, SAMPLE);
     return block;
 }

@@ -5,9 +5,29 @@
 #include <stdlib.h>
 
 const uint32_t ORDER[PRINCIPALS] = {
-    1u << CUSTOMER,
-    1u << CUSTOMER | 1u << LABORATORY,
+    [CUSTOMER] = 1u << CUSTOMER | 1u << BOTTOM,
+    [LABORATORY] = 1u << CUSTOMER | 1u << LABORATORY | 1u << OTHER_CUSTOMER |
+                   1u << BOTTOM,
+    [OTHER_CUSTOMER] = 1u << OTHER_CUSTOMER | 1u << BOTTOM,
+    [BOTTOM] = 1u << BOTTOM,
 };
+
+/* What the floor byte of a block is that is not endorsed. It means nothing. */
+enum { NO_FLOOR = 0 };
+
+struct block plain_block(uint8_t region)
+{
+    const struct block block = {region, NO_FLOOR, {{0}, 0}};
+
+    return block;
+}
+
+struct block endorsed_block(uint8_t region, uint8_t floor)
+{
+    const struct block block = {region | MUNTYZHAP_ENDORSED, floor, {{0}, 0}};
+
+    return block;
+}
 
 void put_byte(struct bytes *to, uint8_t byte)
 {
@@ -52,6 +72,12 @@ void put_read(struct bytes *to, uint8_t slot)
     put_literal(to, MUNTYZHAP_KIND_READ_VIEW, slot);
 }
 
+void put_assignment(struct bytes *to, uint8_t slot)
+{
+    put_byte(to, MUNTYZHAP_ASSIGNMENT);
+    put_literal(to, MUNTYZHAP_KIND_WRITE_VIEW, slot);
+}
+
 struct bytes store_sheet(const struct slot *slots, size_t count)
 {
     struct bytes sheet = {{0}, 0};
@@ -80,6 +106,8 @@ struct bytes programme_sheet(const struct block *blocks, size_t count)
         put_byte(&sheet, blocks[i].region);
     for (size_t i = 0; i < count; i++)
         put_number(&sheet, blocks[i].code.length, 2);
+    for (size_t i = 0; i < count; i++)
+        put_byte(&sheet, blocks[i].floor);
     for (size_t i = 0; i < count; i++)
         put_bytes(&sheet, &blocks[i].code);
     return sheet;

@@ -25,21 +25,36 @@ struct slot {
     integer payload;
 };
 
-/* A block: for whom it runs, and its one command. */
+/* A block: its region byte, its floor byte and its one command. */
 struct block {
     uint8_t region;
+    uint8_t floor;
     struct bytes code;
 };
 
-enum { CUSTOMER = 0, LABORATORY = 1, PRINCIPALS = 2 };
+enum {
+    CUSTOMER = 0,
+    LABORATORY = 1,
+    OTHER_CUSTOMER = 2,
+    BOTTOM = 3,
+    PRINCIPALS = 4
+};
 
-/* Who stands at or below each: the laboratory is above its customer. */
+/* Who stands at or below each: the laboratory is above its customers. These are
+ * unrelated, so it takes a principal below both. */
 extern const uint32_t ORDER[PRINCIPALS];
+
+/* A block that has no code yet, for a principal: not endorsed, or endorsed down
+ * to a floor. */
+struct block plain_block(uint8_t region);
+struct block endorsed_block(uint8_t region, uint8_t floor);
 
 /* Parts of a command. No room left ends the program. */
 void put_byte(struct bytes *to, uint8_t byte);
 void put_literal(struct bytes *to, uint8_t kind, integer payload);
 void put_read(struct bytes *to, uint8_t slot);
+/* The start of an assignment to a slot; a value expression follows. */
+void put_assignment(struct bytes *to, uint8_t slot);
 
 /* Whole sheets. */
 struct bytes store_sheet(const struct slot *slots, size_t count);

@@ -2,6 +2,7 @@
 
 use muntyzhap::BuildError;
 
+use crate::floors::of_floors;
 use crate::operations::{counting, of_expressions};
 use crate::timing::Case;
 use crate::workloads::{full_sheets, of_long_steps, of_skipping, of_skips, of_speed, Workload};
@@ -19,6 +20,7 @@ pub struct Workloads {
     longest: Vec<Workload>,
     counting: Workload,
     expressions: Vec<Workload>,
+    floors: [Workload; 2],
 }
 
 impl Workloads {
@@ -33,6 +35,7 @@ impl Workloads {
             longest: of_long_steps()?,
             counting: counting()?,
             expressions: of_expressions()?,
+            floors: of_floors()?,
         })
     }
 }
@@ -55,11 +58,15 @@ pub struct Cases<'a> {
     pub counting: Vec<Case<'a>>,
     /// (j).
     pub expressions: Vec<Case<'a>>,
+    /// (k), by the owner, and by the floor.
+    pub owner: Vec<Case<'a>>,
+    pub floor: Vec<Case<'a>>,
 }
 
 impl<'a> Cases<'a> {
     pub fn of(workloads: &'a Workloads) -> Cases<'a> {
         let skipping = || workloads.skipping.iter();
+        let [owner, floor] = &workloads.floors;
         Cases {
             speed: under_rules(&workloads.speed),
             short: under_rules(skipping().map(|[short, _]| short)),
@@ -70,6 +77,8 @@ impl<'a> Cases<'a> {
             longest: under_rules(&workloads.longest),
             counting: under_rules([&workloads.counting]),
             expressions: under_rules(&workloads.expressions),
+            owner: under_rules([owner]),
+            floor: under_rules([floor]),
         }
     }
 
@@ -78,7 +87,8 @@ impl<'a> Cases<'a> {
         let known = self.speed.iter().chain(&self.short).chain(&self.long);
         let known = known.chain(&self.skip).chain(&self.skips);
         let known = known.chain(&self.longest).chain(&self.counting);
-        known.chain(&self.expressions)
+        let known = known.chain(&self.expressions);
+        known.chain(&self.owner).chain(&self.floor)
     }
 
     /// Times each once that is timed in this round.
@@ -89,6 +99,7 @@ impl<'a> Cases<'a> {
         let all = all.chain(&mut self.skip).chain(&mut self.skips);
         let all = all.chain(&mut self.longest).chain(&mut self.counting);
         let all = all.chain(&mut self.expressions);
+        let all = all.chain(&mut self.owner).chain(&mut self.floor);
         let timed = all.filter(|case| round < case.workload.rounds);
         timed.for_each(Case::repeat);
     }

@@ -10,6 +10,7 @@
 
 mod cases;
 mod code;
+mod floors;
 mod operations;
 mod python;
 mod report;

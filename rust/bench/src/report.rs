@@ -26,6 +26,7 @@ pub fn lines(cases: &Cases, python: Option<&Python>) -> Vec<String> {
     lines.extend(of_both_runners(cases));
     lines.extend(of_python(cases, python));
     lines.extend(of_expressions(cases));
+    lines.extend(of_floors(cases));
     let step = worst(cases, Case::proved).map(time_of);
     lines.extend(step.map(|step| format!("worst step found: {step}")));
     let call = worst(cases, Case::call).map(call_of);
@@ -75,6 +76,18 @@ fn of_expressions(cases: &Cases) -> Vec<String> {
     let expressions = cases.expressions.iter();
     let verdicts = expressions.map(|case| verdict(case, case.proved() / 1e3, MOST_EVALUATION));
     [heading].into_iter().chain(verdicts).collect()
+}
+
+/// (k). No bound is set.
+fn of_floors(cases: &Cases) -> Vec<String> {
+    let heading = "k: a step's time by the floor to that by the owner".to_string();
+    let pairs = cases.owner.iter().zip(&cases.floor);
+    let quotients = pairs.map(|(owner, floor)| {
+        let value = floor.proved() / owner.proved();
+        let (name, rule) = (floor.workload.name, floor.rule);
+        format!("   {name}, rule {rule}: {value:.2}")
+    });
+    [heading].into_iter().chain(quotients).collect()
 }
 
 fn row(case: &Case) -> String {

@@ -14,6 +14,17 @@ pub fn store_of_one(values: &[Value]) -> Result<Vec<u8>, BuildError> {
     store_sheet(&[1], &slots.collect::<Result<Vec<_>, _>>()?)
 }
 
+/// The principals of a store of two, one below the other.
+pub const LOW: u8 = 0;
+pub const HIGH: u8 = 1;
+
+/// A store of two principals, each slot with its owner.
+pub fn store_of_two(slots: &[(u8, Value)]) -> Result<Vec<u8>, BuildError> {
+    let slots = slots.iter().map(|(owner, value)| Slot::new(*owner, *value));
+    let masks = [1 << LOW, 1 << LOW | 1 << HIGH];
+    store_sheet(&masks, &slots.collect::<Result<Vec<_>, _>>()?)
+}
+
 /// A full store: 32 principals in a chain, and 256 slots shared among them.
 pub fn full_store() -> Result<Vec<u8>, BuildError> {
     let masks: Vec<u32> = (0..32).map(|i| u32::MAX >> (31 - i)).collect();

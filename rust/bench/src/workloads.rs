@@ -1,7 +1,7 @@
 //! What is timed. Every run passes its rule, and finishes or is spent.
 
 use muntyzhap::code::*;
-use muntyzhap::sheet::{MOST_BLOCKS, MOST_CODE, MOST_SLOTS};
+use muntyzhap::sheet::{output_bytes, MOST_BLOCKS, MOST_CODE, MOST_SLOTS};
 use muntyzhap::{BuildError, Value, MOST_BUDGET};
 
 use crate::code::{filled, filled_widely, forever};
@@ -39,16 +39,21 @@ impl Workload {
         values: &[Value],
         blocks: &[Command],
     ) -> Result<Workload, BuildError> {
-        Ok(Workload {
+        let (store, programme) = (store_of_one(values)?, programme(blocks)?);
+        Ok(Workload::of_sheets(name, store, programme))
+    }
+
+    pub fn of_sheets(name: &'static str, store: Vec<u8>, programme: Vec<u8>) -> Workload {
+        Workload {
             name,
             unit: Unit::Step,
-            store: store_of_one(values)?,
-            programme: programme(blocks)?,
+            output: output_bytes(&store),
+            store,
+            programme,
             budget: MOST_BUDGET,
             second_budget: MOST_BUDGET,
             rounds: ROUNDS,
-            output: values.len() * Value::BYTES,
-        })
+        }
     }
 }
 
@@ -63,7 +68,7 @@ pub fn of_speed() -> Result<Vec<Workload>, BuildError> {
 }
 
 /// Two literals, and a copy of each.
-fn four_assignments() -> Result<Command, BuildError> {
+pub fn four_assignments() -> Result<Command, BuildError> {
     sequence(&[
         assign(0, literal(Value::Integer(7))),
         assign(1, read(0)),
@@ -178,15 +183,12 @@ pub fn of_long_steps() -> Result<Vec<Workload>, BuildError> {
 /// (f): checking sheets as large as they may be. No step is allowed.
 pub fn full_sheets() -> Result<Workload, BuildError> {
     let block = filled(MOST_CODE / MOST_BLOCKS)?;
+    let programme = programme(&vec![block; MOST_BLOCKS])?;
     Ok(Workload {
-        name: "f  full sheets, budget 0",
         unit: Unit::Run,
-        store: full_store()?,
-        programme: programme(&vec![block; MOST_BLOCKS])?,
         budget: 0,
         second_budget: 0,
-        rounds: ROUNDS,
-        output: MOST_SLOTS * Value::BYTES,
+        ..Workload::of_sheets("f  full sheets, budget 0", full_store()?, programme)
     })
 }
 

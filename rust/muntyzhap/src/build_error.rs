@@ -16,6 +16,8 @@ use crate::sheet::{Block, MOST_BLOCKS, MOST_CODE, MOST_PRINCIPALS, MOST_SLOTS};
 pub enum BuildError {
     /// The region of a block is no principal's number.
     Region(u8),
+    /// The floor of an endorsed block is no principal's number.
+    Floor(u8),
     /// The owner of a slot is no principal's number.
     Owner(u8),
     /// An order table has no principals, or too many.
@@ -73,6 +75,8 @@ impl Display for BuildError {
                     false => Ok(()),
                 }
             }
+            BuildError::Floor(floor) =>
+                write!(out, "floor {floor} is no principal's number, which is 0 to {last}"),
             BuildError::Owner(owner) =>
                 write!(out, "owner {owner} is no principal's number, which is 0 to {last}"),
             BuildError::Principals(count) =>

@@ -25,7 +25,8 @@
 //! let store = store_sheet(&[0b01, 0b11], &slots)?;
 //! let programme = programme_sheet(&[
 //!     Block::new(customer, assign(0, literal(Value::Integer(42))))?,
-//!     Block::endorsed(laboratory, assign(1, read(0)))?,
+//!     // Endorsed down to the customer: it may use what comes from there.
+//!     Block::endorsed(laboratory, customer, assign(1, read(0)))?,
 //! ])?;
 //! let mut out = vec![0; output_bytes(&store)];
 //! match run(&store, &programme, Rule::FullProvenance, 1000, &mut out) {
@@ -36,6 +37,15 @@
 //! # Ok(())
 //! # }
 //! ```
+//!
+//! An endorsed block has a floor, the principal down to which it is endorsed:
+//! "an endorsed assignment passes under rules 2 and 3 when the meet of all labels
+//! judged stands at or above the slot's owner, or at or above the floor" (document
+//! 02, N6). Without the endorsement the run above is refused by 16, and so it is
+//! with the laboratory as the floor. The isolation of rule 3 from an adversary
+//! holds where no endorsed block outside the adversary's reach has a floor at or
+//! below the adversary. With the customer as the adversary it says nothing of the
+//! programme above.
 //!
 //! [`code`] and [`sheet`] write sheets and read what a run leaves. They are a
 //! convenience and not proved. What no sheet can hold is a [`BuildError`] where

@@ -40,7 +40,9 @@ pub enum Refusal {
     ProgrammeLength,
     /// 7, by the programme sheet.
     ProgrammeLimits,
-    /// 8, by the programme sheet.
+    /// 8, by the programme sheet: the region of a block, or the floor of an
+    /// endorsed one, is not one of the principals. Which of the two, and in
+    /// which block, the answer does not tell.
     Region,
     /// 9, by the programme sheet.
     IllFormedCode(Place),
@@ -56,7 +58,9 @@ pub enum Refusal {
     NoAuthority(Stop),
     /// 15, by a block while it runs.
     WriteViewNotAllowed(Stop),
-    /// 16, by a block while it runs.
+    /// 16, by a block while it runs: the meet of all labels judged stands
+    /// neither at or above the slot's owner nor, if the block is endorsed, at or
+    /// above its floor.
     ProvenanceTooLow(Stop),
     /// 17, by a block while it runs.
     BudgetSpent(Stop),
@@ -177,7 +181,10 @@ impl Refusal {
             Refusal::ProgrammeLimits => {
                 "the programme sheet may have at most 64 blocks and 16,384 bytes of code"
             }
-            Refusal::Region => "the region of a block is not one of the principals",
+            Refusal::Region => {
+                "the region of a block, or the floor of an endorsed one, is not one of the \
+                 principals"
+            }
             Refusal::IllFormedCode(_) => {
                 "the code is ill-formed: an unknown byte, a bad count or literal, code that ends \
                  early, or bytes left over"
@@ -210,8 +217,9 @@ impl Refusal {
                  at or below the region"
             }
             Refusal::ProvenanceTooLow(_) => {
-                "provenance too low: the label of the target, of the value or, under rule 3, of \
-                 the branch does not stand at or above the owner of the slot to be written"
+                "provenance too low: the meet of the labels of target, value and, under rule 3, \
+                 branch stands neither at or above the owner of the slot to be written nor, if the \
+                 block is endorsed, at or above its floor"
             }
             Refusal::BudgetSpent(_) => "the budget is spent, and another step was to be done",
             _ => "a number that this wrapper does not know",

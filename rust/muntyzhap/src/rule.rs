@@ -6,6 +6,13 @@ use std::fmt::{self, Display, Formatter};
 pub const MOST_BUDGET: u32 = 1_000_000;
 
 /// A rule set, by its number.
+///
+/// Rules 2 and 3 judge labels (16). In a block that is not endorsed all of them
+/// must stand at or above the owner of the slot to be written. In an endorsed
+/// one they may instead all stand at or above its floor: "an endorsed assignment
+/// passes under rules 2 and 3 when the meet of all labels judged stands at or
+/// above the slot's owner, or at or above the floor" (document 02, N6). Rules 0
+/// and 1 judge no label, so that there a floor need only be a principal's (8).
 #[derive(Debug, Clone, Copy, PartialEq, Eq)]
 pub enum Rule {
     /// The block's region must be at or above the owner of the slot it writes.
@@ -13,10 +20,11 @@ pub enum Rule {
     /// A block may have no write view of a slot whose owner isn't at or below
     /// its region.
     Capability = 1,
-    /// Access control and, unless the block is endorsed, the labels of target
-    /// and value stand at or above the slot's owner.
+    /// Access control, and the labels of target and value are judged.
     ExplicitProvenance = 2,
-    /// Explicit provenance, and the label of the branch likewise.
+    /// Explicit provenance, and the label of the branch is judged with them. It
+    /// isolates from an adversary where no endorsed block outside the
+    /// adversary's reach has a floor at or below the adversary.
     FullProvenance = 3,
     /// The default rule, which document 01 calls the house rule: full
     /// provenance.

@@ -2,15 +2,19 @@
 //!
 //! A sheet is built only of parts that it can hold, so that no part is taken for
 //! another. Whether an order table is good (3), and what a programme needs of
-//! its store, its regions' principals (8) and its views' slots (9), the library
-//! judges.
+//! its store, the principals of its regions and floors (8) and its views' slots
+//! (9), the library judges.
+
+mod block;
 
 use std::ops::RangeInclusive;
 
 use crate::build_error::BuildError;
-use crate::code::{Code, CommandKind};
+use crate::code::CommandKind;
 use crate::refusal::Place;
 use crate::value::Value;
+
+pub use block::Block;
 
 /// The most principals of an order table.
 pub const MOST_PRINCIPALS: usize = 32;
@@ -24,7 +28,11 @@ pub const MOST_CODE: usize = 16_384;
 /// The bytes of the sizes that either sheet starts with: one and two.
 const SIZES: usize = 3;
 const MASK_BYTES: usize = size_of::<u32>();
+/// What each block has in the three arrays of a programme sheet.
+const REGION_BYTES: usize = 1;
 const LENGTH_BYTES: usize = 2;
+const FLOOR_BYTES: usize = 1;
+const BLOCK_BYTES: usize = REGION_BYTES + LENGTH_BYTES + FLOOR_BYTES;
 
 /// Whether this is the number of a principal that some order table has.
 fn is_principal(number: u8) -> bool {
@@ -143,91 +151,7 @@ pub fn end_store(store: &[u8], out: &[u8]) -> Option<Vec<Slot>> {
         .collect()
 }
 
-/// A block: for whom it runs, and its one command.
-///
-/// It is made by its constructors alone, so a block that was not endorsed never
-/// runs endorsed:
-///
-/// ```
-/// # use muntyzhap::{code::skip, sheet::Block};
-/// let block = Block::new(1, skip())?;
-/// assert!(!block.is_endorsed());
-/// # Ok::<(), muntyzhap::BuildError>(())
-/// ```
-///
-/// and not by its parts:
-///
-/// ```compile_fail,E0451
-/// # use muntyzhap::{code::skip, sheet::Block};
-/// let block = Block { region: 0x81, endorsed: false, code: skip().into() };
-/// ```
-#[derive(Debug, Clone, PartialEq, Eq)]
-pub struct Block {
-    region: u8,
-    endorsed: bool,
-    code: Code,
-}
-
-impl Block {
-    /// What an endorsed block's region byte has besides its principal.
-    pub const ENDORSED: u8 = 0x80;
-
-    /// A block that runs for this principal and is not endorsed. Its code is a
-    /// [`Command`](crate::code::Command), or bytes as [`Code::unjudged`].
-    ///
-    /// # Errors
-    /// [`BuildError::Region`] if that is no principal's number,
-    /// [`BuildError::CodeBytes`] for more code than a programme has.
-    pub fn new(region: u8, code: impl Into<Code>) -> Result<Block, BuildError> {
-        Block::made(region, false, code.into())
-    }
-
-    /// The same, but endorsed: rules 2 and 3 judge no label in it, and the
-    /// isolation of rule 3 holds of no programme with such a block outside the
-    /// adversary's reach.
-    ///
-    /// # Errors
-    /// As of [`Block::new`].
-    pub fn endorsed(region: u8, code: impl Into<Code>) -> Result<Block, BuildError> {
-        Block::made(region, true, code.into())
-    }
-
-    fn made(region: u8, endorsed: bool, code: Code) -> Result<Block, BuildError> {
-        if !is_principal(region) {
-            return Err(BuildError::Region(region));
-        }
-        code_bytes(code.bytes())?;
-        Ok(Block {
-            region,
-            endorsed,
-            code,
-        })
-    }
-
-    /// The number of the principal that it runs for.
-    pub fn region(&self) -> u8 {
-        self.region
-    }
-
-    /// Whether labels are not judged in this block.
-    pub fn is_endorsed(&self) -> bool {
-        self.endorsed
-    }
-
-    /// The bytes of its command.
-    pub fn code(&self) -> &[u8] {
-        self.code.bytes()
-    }
-
-    fn region_byte(&self) -> u8 {
-        match self.endorsed {
-            true => self.region | Block::ENDORSED,
-            false => self.region,
-        }
-    }
-}
-
-/// A programme sheet.
+/// A programme sheet: the blocks' regions, lengths and floors, then their code.
 ///
 /// # Errors
 /// [`BuildError::Blocks`] or [`BuildError::CodeBytes`] for more than a programme
@@ -240,6 +164,7 @@ pub fn programme_sheet(blocks: &[Block]) -> Result<Vec<u8>, BuildError> {
     for block in blocks {
         sheet.extend(code_bytes(block.code())?);
     }
+    sheet.extend(blocks.iter().map(Block::floor_byte));
     sheet.extend(code);
     Ok(sheet)
 }
@@ -273,11 +198,11 @@ fn two_bytes(
 /// such as the place where a run was stopped.
 pub fn command_at(programme: &[u8], place: Place) -> Option<CommandKind> {
     let (blocks, _) = sizes(programme)?;
-    let lengths = programme.get(SIZES + blocks..)?.chunks_exact(LENGTH_BYTES);
-    let mut lengths = lengths.take(blocks).map(number);
+    let lengths = programme.get(SIZES + blocks * REGION_BYTES..)?;
+    let mut lengths = lengths.chunks_exact(LENGTH_BYTES).take(blocks).map(number);
     let before: usize = lengths.by_ref().take(place.block).sum();
     let length = lengths.next()?;
-    let start = SIZES + blocks + blocks * LENGTH_BYTES + before;
+    let start = SIZES + blocks * BLOCK_BYTES + before;
     let code = programme.get(start..start + length)?;
     CommandKind::from_byte(*code.get(place.offset)?)
 }

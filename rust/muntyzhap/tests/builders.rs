@@ -24,7 +24,10 @@ fn refusal_of(bytes: &[u8]) -> Option<u32> {
 fn a_region_is_a_principal_s_number() {
     for region in 0..=u8::MAX {
         let good = usize::from(region) < MOST_PRINCIPALS;
-        for made in [Block::new(region, skip()), Block::endorsed(region, skip())] {
+        for made in [
+            Block::new(region, skip()),
+            Block::endorsed(region, LOW, skip()),
+        ] {
             match made {
                 Ok(block) => assert!(good && block.region() == region),
                 Err(error) => assert!(!good && error == BuildError::Region(region)),
@@ -49,8 +52,7 @@ fn a_region_is_a_principal_s_number() {
 #[test]
 fn a_block_runs_endorsed_only_if_it_was_made_so() {
     for region in 0..MOST_PRINCIPALS as u8 {
-        let plain = built(Block::new(region, skip()));
-        let endorsed = built(Block::endorsed(region, skip()));
+        let (plain, endorsed) = (block(region, skip()), endorsed(region, LOW, skip()));
         assert!(!plain.is_endorsed() && endorsed.is_endorsed());
         let byte = |block| programme_of(&[block])[3];
         assert_eq!(byte(plain), region);

@@ -5,7 +5,7 @@ mod parts;
 use muntyzhap::code::{
     assign, assignment, if_command, literal, read, sequence, skip, while_command, Code, CommandKind,
 };
-use muntyzhap::sheet::{command_at, end_store, output_bytes, Block, MOST_BLOCKS};
+use muntyzhap::sheet::{command_at, end_store, output_bytes, MOST_BLOCKS};
 use muntyzhap::{
     check_programme, check_store, check_table, raw, run, Finished, Integer, Place, Refusal, Rule,
     Value, MOST_BUDGET,
@@ -191,7 +191,7 @@ fn programme_sheets_are_judged() {
         (bytes(skip().bytes()), Ok(())),
         (vec![0, 0], Err(Refusal::ProgrammeLength)),
         (
-            vec![1, 2, 0, 0, 1, 0, 0x20, 0x20],
+            vec![1, 2, 0, 0, 1, 0, 0, 0x20, 0x20],
             Err(Refusal::ProgrammeLength),
         ),
         (vec![blocks, 0, 0], Err(Refusal::ProgrammeLimits)),
@@ -274,17 +274,6 @@ fn a_step_that_is_forbidden_is_refused_at_its_place() {
     assert_eq!(spent, Err(Refusal::BudgetSpent(stop(0, 0, 3))));
 }
 
-/// The block that is not endorsed is judged, by the same code.
-#[test]
-fn an_endorsed_block_may_lift_what_it_read() {
-    let lift = || assign(1, read(0));
-    let endorsed = built(Block::endorsed(HIGH, lift()));
-    let finished = ran(&programme_of(&[endorsed]), Rule::FullProvenance);
-    assert_eq!(finished.map(|finished| finished.steps), Ok(1));
-    let judged = ran(&programme_by(HIGH, lift()), Rule::FullProvenance);
-    assert_eq!(judged, Err(Refusal::ProvenanceTooLow(stop(0, 0, 0))));
-}
-
 #[test]
 fn the_command_at_a_place_is_named() {
     let through = assignment(read(0), integer(1));
@@ -292,7 +281,7 @@ fn the_command_at_a_place_is_named() {
     let (if_place, then_place) = (3, 3 + 1 + 10);
     let choice = built(if_command(truth(true), through, skip()));
     let whole = built(sequence(&[skip(), choice]));
-    let sheet = programme_of(&[block(LOW, skip()), block(HIGH, whole)]);
+    let sheet = programme_of(&[block(LOW, skip()), endorsed(HIGH, LOW, whole)]);
     let at = |block, offset| command_at(&sheet, Place { block, offset });
     assert_eq!(at(0, 0), Some(CommandKind::Skip));
     assert_eq!(at(0, 1), None, "the next block's byte");

@@ -40,6 +40,11 @@ pub fn block(region: u8, code: impl Into<Code>) -> Block {
     built(Block::new(region, code))
 }
 
+/// A block endorsed down to a floor.
+pub fn endorsed(region: u8, floor: u8, code: impl Into<Code>) -> Block {
+    built(Block::endorsed(region, floor, code))
+}
+
 pub fn programme_of(blocks: &[Block]) -> Vec<u8> {
     built(programme_sheet(blocks))
 }
