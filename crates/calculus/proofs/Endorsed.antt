@@ -49,8 +49,7 @@ unfolding numberAt
 let-in In floor e p zero h out k = inr (rw e p)
 let-in In floor e p (suc i) h out k = absurd (omega arith)
 
-worked : (floor : ℕ) → below (tables .order) floor 1 ≡ true → FullRun left (leaking floor) (int 5 ++ int 5) → FullRun right (leaking floor) (int 6 ++ int 6)
-    → EndorsedWorked floor
+computed : EndorsedWorked 1 × EndorsedWorked 0 × FloorWorked
 unfolding runProgramme runOpened runUnder run answerOf outputOf
     _and_ _or_ _implies_ every some find bit inRange reflexive antisymmetric transitive isMeet hasMeets isTop hasTop good meet top
     _>>=_ require refusedAs inTurn numberAt numberBytes entries filled wellFormed valueAt valueBytes opened assigned emptySlot slotBytes
@@ -59,44 +58,33 @@ unfolding runProgramme runOpened runUnder run answerOf outputOf
     floorOf headerOf startOf headerGood blockAt blocksFrom programmeSheet
     rulesOf judgesViews judgesRegion labelsJudged allAbove labelsSuffice inRegion admit fetch eval authorised reliable permit assignment
     counted written performed step exec execBody haltAnswer runBlocks start
-worked floor low l r =
-    record {
-      left-opens = refl;
-      right-opens = refl;
-      principal = omega arith;
-      protected = record { inside = omega arith; above = refl };
-      agree = agree refl refl refl;
-      outside = refl;
-      header = refl;
-      low = low;
-      left-run = l;
-      right-run = r;
-    }
-
-pub endorsed-worked : EndorsedWorked 1 × EndorsedWorked 0
-unfolding runProgramme runOpened runUnder run answerOf outputOf
-    _and_ _or_ _implies_ every some find bit inRange reflexive antisymmetric transitive isMeet hasMeets isTop hasTop good meet top
-    _>>=_ require refusedAs inTurn numberAt numberBytes entries filled wellFormed valueAt valueBytes opened assigned emptySlot slotBytes
-    orderOf tablesOf openingOf valueWidthIn valueGood sizesAllowed slotChecked bodyChecked sheetChecked storeSheet slotsBytes
-    readValue exprSorted exprByte readLiteral exprBy readExpr sorted cmdByte readAssign bodyBy readBody readBlock
-    floorOf headerOf startOf headerGood blockAt blocksFrom programmeSheet
-    rulesOf judgesViews judgesRegion labelsJudged allAbove labelsSuffice inRegion admit fetch eval authorised reliable permit assignment
-    counted written performed step exec execBody haltAnswer runBlocks start
-endorsed-worked = (
+computed = (
   worked 1 refl (ran left (leaking 1) _ refl refl) (ran right (leaking 1) _ refl refl),
   worked 0 refl (ran left (leaking 0) _ refl refl) (ran right (leaking 0) _ refl refl),
+  record { floors = out-of-reach refl; left-refused = refl; right-refused = refl },
 )
+  where
+    worked : (floor : ℕ) → below (tables .order) floor 1 ≡ true → FullRun left (leaking floor) (int 5 ++ int 5)
+        → FullRun right (leaking floor) (int 6 ++ int 6) → EndorsedWorked floor
+    worked floor low l r =
+        record {
+          left-opens = refl;
+          right-opens = refl;
+          principal = omega arith;
+          protected = record { inside = omega arith; above = refl };
+          agree = agree refl refl refl;
+          outside = refl;
+          header = refl;
+          low = low;
+          left-run = l;
+          right-run = r;
+        }
+
+pub endorsed-worked : EndorsedWorked 1 × EndorsedWorked 0
+endorsed-worked = (computed .0, computed .1)
 
 pub floor-worked : FloorWorked
-unfolding runProgramme runOpened runUnder run answerOf outputOf
-    _and_ _or_ _implies_ every some find bit inRange reflexive antisymmetric transitive isMeet hasMeets isTop hasTop good meet top
-    _>>=_ require refusedAs inTurn numberAt numberBytes entries filled wellFormed valueAt valueBytes opened assigned emptySlot slotBytes
-    orderOf tablesOf openingOf valueWidthIn valueGood sizesAllowed slotChecked bodyChecked sheetChecked storeSheet slotsBytes
-    readValue exprSorted exprByte readLiteral exprBy readExpr sorted cmdByte readAssign bodyBy readBody readBlock
-    floorOf headerOf startOf headerGood blockAt blocksFrom programmeSheet
-    rulesOf judgesViews judgesRegion labelsJudged allAbove labelsSuffice inRegion admit fetch eval authorised reliable permit assignment
-    counted written performed step exec execBody haltAnswer runBlocks start
-floor-worked = record { floors = out-of-reach refl; left-refused = refl; right-refused = refl }
+floor-worked = computed .2
 
 -- the two stores agree, and the two outputs do not
 leaks : (Condition : Tables → Label → List ℕ → Type 0) (floor : ℕ) → EndorsedWorked floor → Bytes (leaking floor) → Condition tables 1 (leaking floor)

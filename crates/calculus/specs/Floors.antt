@@ -11,7 +11,7 @@ use Rattle.programme.specs.declared.Header.{Header}
 use Rattle.programme.specs.Floors.{ButForIgnored}
 use Rattle.calculus.specs.Rules.{labelsSuffice}
 use Rattle.calculus.specs.Run.{Call, EndsAlike}
-use Rattle.calculus.specs.Vectors.{Vector, Hold, runs, blank, int, bool, reads, writes, opening, flagged, assign, lit, read, floored, sheetOf, oneDownTo, copy, raise, branches, branchAt}
+use Rattle.calculus.specs.Vectors.{Vector, Hold, runs, blank, int, bool, writes, opening, flagged, assign, read, floored, sheetOf, oneDownTo, copy, raise, branches}
 
 -- The meet
 
@@ -66,7 +66,8 @@ floors =
     -- "stands at or above the slot's owner": slot 0's label is too low for the floor, and enough for slot 0
     ∷ runs 2 10 opening (oneDownTo 0x81 1 again) (says 0 1 0 1) (int 5 ++ int 7)
     ∷ runs 3 10 opening (oneDownTo 0x81 1 again) (says 0 1 0 1) (int 5 ++ int 7)
-    -- "the meet of all labels judged": the target's label stands at the owner, the value's at the floor, and their meet at neither
+    -- "the meet of all labels judged": the target's label stands at the owner, the value's at the floor, and their meet at neither. Nor does it with
+    -- the owner for the floor; it is the bottom.
     ∷ runs 2 10 beside (oneDownTo 0x80 2 across) (says 16 0 0 0) blank
     ∷ runs 3 10 beside (oneDownTo 0x80 1 across) (says 16 0 0 0) blank
     ∷ runs 3 10 beside (oneDownTo 0x80 3 across) (says 0 1 0 1) (int 7 ++ int 7)
