@@ -22,7 +22,7 @@ use Rattle.programme.proofs.Literals.{literals-all, literals-join}
 use Rattle.programme.proofs.Formed.{block-literals}
 use Rattle.programme.proofs.Placed.{IsBlock}
 use Rattle.calculus.specs.Rules.{capability, rulesOf, judgesViews}
-use Rattle.calculus.specs.Calculus.{Setting, Store, State, contents, inRegion, gives, eval, permit, assignment, written, exec}
+use Rattle.calculus.specs.Calculus.{Limits, Setting, Store, State, contents, inRegion, gives, eval, permit, assignment, written, exec}
 use Rattle.calculus.specs.Blocks.{setting}
 use Rattle.calculus.specs.Isolation.{withinReach}
 use Rattle.calculus.specs.Run.{Call}
@@ -78,13 +78,13 @@ module _ (w : Setting) (a : Label) (u : Store) (P : Value → Type 0)
       → Ends (Safe (w .tables) a u) (exec w c branch s)
   safe-keeps = exec-ends w (Safe (w .tables) a u) P assigns
 
-module _ (w : Tables) (a : Label) (o : Ordered w) (in-a : Principal w a) (k : ℕ) (b : Block) where
+module _ (w : Tables) (a : Label) (o : Ordered w) (in-a : Principal w a) (k : Limits) (j : ℕ) (b : Block) where
   -- within reach, the region has no authority over a protected slot
   pub gives-within : Tainted w a (b .header .region) → (s : Store) (e : Expr)
-      → Post (λ x. Low w a (x .value)) Any (eval (setting w capability k b) s e)
+      → Post (λ x. Low w a (x .value)) Any (eval (setting w capability k j b) s e)
   unfolding judgesViews inRegion _and_
   gives-within l s e =
-      post-map _ _ _ _ _ (eval-held (setting w capability k b) s e)
+      post-map _ _ _ _ _ (eval-held (setting w capability k j b) s e)
       (λ x p view. tainted-down w a o in-a _ _ (imp-at (isWriteView (x .value)) _ p view) l) (λ _ _. tt)
 
 -- blocks that are read have well-formed literals, so those outside reach have low ones
@@ -94,14 +94,14 @@ low-literals w a p j b is spare =
     literals-join _ _ _ (λ v f q. spares-low w a v f q) (b .command) (post-at _ _ _ _ (block-literals _ _) (is .code)) spare
 
 module _ (w : Tables) (a : Label) (o : Ordered w) (in-a : Principal w a) (u : Store) (p : List ℕ) (spare : BlocksSpare w a p) where
-  block-safe : (k j : ℕ) (b : Block) → IsBlock (w .slots) p j b → Keeps (Safe w a u) w capability k j b
+  block-safe : (k : Limits) (j : ℕ) (b : Block) → IsBlock (w .slots) p j b → Keeps (Safe w a u) w capability k j b
   block-safe k j b is s m =
       cases (withinReach w a p j)
-      (λ e. safe-keeps (setting w capability k b) a u (λ _. Unit {0})
-      (λ s x _ _. gives-within w a o in-a k b (rw (is .header) e) s x) (b .command) (literals-all _ (λ _. tt) (b .command)) _ s m)
+      (λ e. safe-keeps (setting w capability k j b) a u (λ _. Unit {0})
+      (λ s x _ _. gives-within w a o in-a k j b (rw (is .header) e) s x) (b .command) (literals-all _ (λ _. tt) (b .command)) _ s m)
       -- outside, neither a literal nor a slot gives one
-      (λ e. safe-keeps (setting w capability k b) a u (Low w a)
-      (λ s x l m. eval-gives (Low w a) (setting w capability k b) (gives-low w a) s x l (m .low)) (b .command)
+      (λ e. safe-keeps (setting w capability k j b) a u (Low w a)
+      (λ s x l m. eval-gives (Low w a) (setting w capability k j b) (gives-low w a) s x l (m .low)) (b .command)
       (low-literals w a p j b is (spare j (is .inside) e (b .command) (is .code))) _ s m)
 
 -- an opening store
@@ -133,7 +133,7 @@ module _ (a : Label) (c : Call) (g : Good c) (is-1 : c .rule ≡ 1)
   pub opening-safe : Safe w a u u
   opening-safe = record { agree = agree-refl w a u; low = λ j. low-at (c .store) (g .opening) opens a j (λ h. slots j h) }
 
-  pub blocks-safe : (k j : ℕ) (b : Block) → IsBlock (w .slots) (c .programme) j b → Keeps (Safe w a u) w (g .rules) k j b
+  pub blocks-safe : (k : Limits) (j : ℕ) (b : Block) → IsBlock (w .slots) (c .programme) j b → Keeps (Safe w a u) w (g .rules) k j b
   unfolding rulesOf
   blocks-safe k j b is =
       keeps-under _ w (g .rules) capability k j b (rules-one (c .rule) capability (g .rules) (ap rulesOf is-1) (g .ruled))

@@ -3,9 +3,10 @@ use Prim.Native.Nat.{ℕ, zero, suc, _*_, _%_, _≤_, _<_}
 use mathlib.Core.Path.{_≡_, refl, sym, ap, _∙_}
 use mathlib.Core.Logic.{⊎-elim}
 use mathlib.Core.Bool.{true, false, true≢false, false≢true}
-use mathlib.Core.List.{List, _++_}
+use mathlib.Core.List.{List}
 use native.Mathlib.Omega.{arith}
-use lib.ListN.{getD}
+use lib.ListN.{getD, replicate, take, drop}
+use lib.Seq.{take-take}
 use borrow.Author.Tests.{eq-eqb}
 use borrow.Table.Steps.{cases}
 use Rattle.lattice.specs.Tests.{_and_, _or_, _implies_, every, some, find}
@@ -13,7 +14,7 @@ use Rattle.lattice.specs.Order.{Label, bit, inRange, reflexive, antisymmetric, 
 use Rattle.store.specs.Result.{ok, _>>=_, require, refusedAs, inTurn}
 use Rattle.store.specs.Bytes.{part, numberAt, numberBytes, entries, filled}
 use Rattle.store.specs.declared.Value.{Value}
-use Rattle.store.specs.Value.{readView, writeView, viewed, wellFormed, valueAt, valueBytes, opened, assigned, emptySlot, slotBytes, slotWidth}
+use Rattle.store.specs.Value.{readView, writeView, viewed, wellFormed, valueAt, valueBytes, opened, assigned, emptySlot, slotBytes, slotWidth, valueWidth}
 use Rattle.store.specs.Sheet.{ownerOf, mostSlots, orderOf, tablesOf, openingOf, valueWidthIn, valueGood, sizesAllowed, slotChecked, bodyChecked, sheetChecked, storeSheet, slotsBytes}
 use Rattle.store.proofs.Bytes.{bytes-of}
 use Rattle.store.proofs.Result.{Post, Any, post-ok, post-all, post-at, post-map, post-require, post-bind}
@@ -22,15 +23,15 @@ use Rattle.programme.specs.Code.{readValue, exprSorted, exprByte, readLiteral, 
 use Rattle.programme.specs.Sheet.{Block, kOf, floorOf, headerOf, codeOf, startOf, headerGood, blockAt, blocksFrom, programmeSheet}
 use Rattle.programme.proofs.Placed.{IsBlock}
 use Rattle.calculus.specs.Rules.{RuleSet, capability, rulesOf, judgesViews, judgesRegion, labelsJudged, allAbove, labelsSuffice}
-use Rattle.calculus.specs.Calculus.{Setting, Store, State, contents, inRegion, admit, fetch, eval, authorised, reliable, permit, assignment, counted, written, performed, step, exec, execBody}
+use Rattle.calculus.specs.Calculus.{Limits, Setting, Store, State, contents, inRegion, admit, fetch, eval, authorised, reliable, permit, assignment, counted, written, entryOf, recorded, performed, step, attempt, exec, execBody}
 use Rattle.calculus.specs.Blocks.{setting, runBlocks, start}
 use Rattle.calculus.specs.Run.{FinishedRun, runProgramme, runOpened, runUnder, run, answerOf, outputOf}
-use Rattle.calculus.specs.Vectors.{int, writes}
+use Rattle.calculus.specs.Vectors.{plenty, writes}
 use Rattle.calculus.specs.Isolation.{Protected, withinReach, unchanged, exchanged, Replaced, Replacement}
 use Rattle.calculus.specs.Deputy.{NoControl, DirectWrite, Noninterference}
 use Rattle.calculus.specs.Chosen.{SufficesUnderCapability, sheet, tables, slots, sent, left, ChosenWorked}
 use Rattle.calculus.proofs.Rules.{rules-one}
-use Rattle.calculus.proofs.Steps.{post-tried}
+use Rattle.calculus.proofs.Steps.{post-tried, post-attempt}
 use Rattle.calculus.proofs.Taint.{Tainted, Agree, agree-refl, agree-tainted}
 use Rattle.calculus.proofs.Invariant.{Ends, all-ends, written-slot, assignment-gives}
 use Rattle.calculus.proofs.Authority.{reach-keeps}
@@ -54,11 +55,12 @@ module _ (w : Setting) (a : Label) (v : Value) (own : Tainted (w .tables) a (own
 
   target-keeps : (u : Store) (at : ℕ) (branch : Label) (s : State) → Agree (w .tables) a (s .store) u
       → Ends (λ t. Agree (w .tables) a t u) (exec w (cmd at (assign (literal v) e)) branch s)
-  unfolding exec execBody performed counted
+  unfolding exec execBody performed recorded counted
   target-keeps u at branch s m =
       post-bind (λ x. Agree (w .tables) a (written x (s .store)) u) _ _ _ _
       (post-tried w at s _ _ _
-      (post-map _ _ _ _ _ (literal-target branch (s .store)) (λ x p. agree-tainted (w .tables) a x (s .store) u p m) (λ _ _. m)) m)
+      (post-attempt _ _ w branch s (literal v) e
+      (post-map _ _ _ _ _ (literal-target branch (s .store)) (λ x p. agree-tainted (w .tables) a x (s .store) u p m) (λ _ _. m)) m) m)
       (λ x q. post-ok _ _ _ q)
 
 -- block 1 as it is read
@@ -80,13 +82,13 @@ module _ (own : Tainted tables 0 (ownerOf tables 1)) (within : withinReach table
 
   module _ (store : List ℕ) (s : Store) (opening : storeSheet store ≡ ok (record { tables = tables; store = s }))
       (q out : List ℕ) (r : Replacement tables 0 (sent 2) q) (x : FinishedRun 1 store q out) where
-    block-keeps : (k j : ℕ) (b : Block) → IsBlock (tables .slots) q j b
+    block-keeps : (k : Limits) (j : ℕ) (b : Block) → IsBlock (tables .slots) q j b
         → Keeps (λ t. Agree tables 0 t s) tables (endGood 1 store tables s opening q out x .rules) k j b
     block-keeps k j b is t m =
         cases (withinReach tables 0 q j)
-        (λ e. reach-keeps (setting tables _ k b) 0 (opens store tables s opening .ordered) in-0 (rw (is .header) e) s (b .command) _ t m)
+        (λ e. reach-keeps (setting tables _ k j b) 0 (opens store tables s opening .ordered) in-0 (rw (is .header) e) s (b .command) _ t m)
         (λ e. rw (outside-left tables 0 (sent 2) q r (λ _ code. (c : Cmd) → readBlock (tables .slots) code ≡ ok c → c ≡ obeying) outside j (is .inside) e
-        (b .command) (is .code)) (target-keeps (setting tables _ k b) 0 _ own _ s 0 _ t m))
+        (b .command) (is .code)) (target-keeps (setting tables _ k j b) 0 _ own _ s 0 _ t m))
 
     kept : (i : ℕ) → Protected tables 0 i → part out (slotWidth * i) slotWidth ≡ slotBytes (getD s i emptySlot)
     kept =
@@ -109,7 +111,7 @@ other own own′ = record { count = refl; each = each }
     each (suc (suc i)) h = absurd (omega arith)
 
 abbrev old : List ℕ
-old = int 0 ++ int 0 ++ int 0 ++ int 0
+old = replicate (slotWidth * 4) 0
 
 pub chosen-worked : ChosenWorked
 unfolding runProgramme runOpened runUnder run answerOf outputOf
@@ -119,7 +121,7 @@ unfolding runProgramme runOpened runUnder run answerOf outputOf
     readValue exprSorted exprByte readLiteral exprBy readExpr sorted cmdByte readAssign bodyBy readBody readBlock
     floorOf headerOf startOf headerGood blockAt blocksFrom programmeSheet Post
     rulesOf judgesViews judgesRegion labelsJudged allAbove labelsSuffice inRegion admit fetch eval authorised reliable permit assignment
-    counted written performed step exec execBody runBlocks start
+    counted written entryOf recorded performed step attempt exec execBody runBlocks start
 chosen-worked =
     record {
       opens = refl;
@@ -130,8 +132,8 @@ chosen-worked =
       protected = record { inside = omega arith; above = refl };
       noninterference = noninterference refl refl refl (omega arith);
       other = other refl refl;
-      first-run = record { budget = 10; old = old; finishes = refl; ends = refl };
-      second-run = record { budget = 10; old = old; finishes = refl; ends = refl };
+      first-run = record { budget = 10; entries = plenty; old = old; finishes = refl; ends = refl };
+      second-run = record { budget = 10; entries = plenty; old = old; finishes = refl; ends = refl };
     }
 
 -- Slot 1 ends with the write view that the adversary chose ..
@@ -158,14 +160,14 @@ module _ (d : DirectWrite 1 tables 0 sheet 1 (left 2)) where
   abbrev ended : Value
   ended = contents (endStore 1 sheet tables slots (chosen-worked .opens) (d .programme) (d .end) (d .finished)) 1
 
-  block-low : (k j : ℕ) (b : Block) → IsBlock (tables .slots) (d .programme) j b → Keeps (λ t. Low tables 0 (contents t 1)) tables capability k j b
+  block-low : (k : Limits) (j : ℕ) (b : Block) → IsBlock (tables .slots) (d .programme) j b → Keeps (λ t. Low tables 0 (contents t 1)) tables capability k j b
   block-low k j b is =
       let o = opens sheet tables slots (chosen-worked .opens) .ordered in
-      let w = setting tables capability k b in
+      let w = setting tables capability k j b in
       all-ends w (λ t. Low tables 0 (contents t 1)) (λ branch s t v m.
       post-map _ _ _ _ _
       (assignment-gives (Low tables 0) w branch s t v
-      (gives-within tables 0 o (chosen-worked .principal) k b (rw (is .header) (d .reached j (is .inside))) s v))
+      (gives-within tables 0 o (chosen-worked .principal) k j b (rw (is .header) (d .reached j (is .inside))) s v))
       (λ y p. written-slot (Low tables 0) y s 1 p m) (λ _ _. tt)) (b .command) _
 
   ended-low : Low tables 0 ended
@@ -178,12 +180,14 @@ module _ (d : DirectWrite 1 tables 0 sheet 1 (left 2)) where
       (block-low k j b is))
 
   not-direct : ⊥
-  unfolding slotBytes
+  unfolding slotBytes valueBytes numberBytes
   not-direct =
+      let first = take-take valueWidth slotWidth (drop slotWidth (d .end)) (omega arith) in
       let view =
       view-read (tables .slots) ended (opens sheet tables slots (chosen-worked .opens) .small)
       (end-formed 1 sheet tables slots (chosen-worked .opens) (d .programme) (d .end) (d .finished) 1)
-      (d .alike ∙ end-part 1 sheet tables slots (chosen-worked .opens) (d .programme) (d .end) (d .finished) 1 (chosen-worked .inside)) in
+      (d .alike ∙ sym first
+      ∙ ap (take valueWidth) (end-part 1 sheet tables slots (chosen-worked .opens) (d .programme) (d .end) (d .finished) 1 (chosen-worked .inside))) in
       let tainted = ended-low (eq-eqb (ended .kind) writeView (view .0)) in
       true≢false (sym (rw (view .1) at tainted) ∙ chosen-worked .protected .above)
 

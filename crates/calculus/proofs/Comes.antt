@@ -1,4 +1,4 @@
--- Where a command is stopped, by the rules or by the budget, it has come to a step. Assumes nothing.
+-- Where a command is stopped, by the rules or by its limits, it has come to a step. Assumes nothing.
 use Prim.Native.Nat.{ℕ, zero, suc, _-_}
 use mathlib.Core.Path.{_≡_, refl}
 use Rattle.lattice.specs.Order.{Label, meet}
@@ -55,7 +55,7 @@ module _ (w : Setting) where
         post-choose _ _ _ _ _ _
         (λ e. inner _ _ _ _ (λ _ _. tt) (λ p x. in-then q e x) (exec-comes c _ (counted s)))
         (λ e. inner _ _ _ _ (λ _ _. tt) (λ p x. in-else q e x) (exec-comes d _ (counted s)))
-    body-comes (while g c) at l s = rounds-come g c at l (λ l t. exec-comes c l t) (w .budget - s .steps) s
+    body-comes (while g c) at l s = rounds-come g c at l (λ l t. exec-comes c l t) (w .limits .budget - s .steps) s
 
     execs-come : (cs : Cmds) (at : ℕ) (l : Label) (s : State) → Refuses (Before (Comes w (cmd at (seq cs)) l s)) (execs w cs l s)
     execs-come nil at l s = post-ok _ _ _ tt

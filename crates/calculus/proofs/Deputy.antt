@@ -8,7 +8,6 @@ use native.Mathlib.Omega.{arith}
 use borrow.Table.Steps.{cases}
 use Rattle.lattice.specs.Order.{Label, below}
 use Rattle.store.specs.Result.{ok}
-use Rattle.store.specs.Value.{opened, slotBytes}
 use Rattle.store.specs.Sheet.{Tables, ownerOf, storeSheet}
 use Rattle.programme.specs.declared.Header.{Header}
 use Rattle.programme.specs.Syntax.{Cmd, Literals}
@@ -26,7 +25,7 @@ use Rattle.calculus.proofs.Isolation.{forth, no-floors}
 use Rattle.calculus.proofs.Ended.{endCall, endGood, endStore, end-part, end-keeps, end-formed, end-kept}
 use Rattle.calculus.proofs.Capability.{Low, Safe, opening-safe, blocks-safe, capability-safety}
 use Rattle.calculus.proofs.Provenance.{bare-spare, provenance-safety-down-to-floors}
-use Rattle.calculus.proofs.Direct.{direct-write}
+use Rattle.calculus.proofs.Direct.{value-part, value-alike, direct-write}
 
 -- What a replacement leaves outside the adversary's reach
 
@@ -69,14 +68,13 @@ module _ (rule : ℕ) (store : List ℕ) (w : Tables) (s : Store) (sheet : store
 
   -- a protected slot is not the adversary's to control, and any other it can write directly
   no-confused-deputy : EndAlike rule w a p store store → EndsLow → NoConfusedDeputy rule w a store p
-  unfolding slotBytes opened
   no-confused-deputy alike low q out b r x i h =
       cases (below (w .order) (ownerOf w i) a)
       (λ own. let g = endGood rule store w s sheet q out x in
       inr (
       direct-write rule (g .rules) (g .ruled) store w s sheet a in-a i h own (contents (endStore rule store w s sheet q out x) i)
-      (end-formed rule store w s sheet q out x i) (λ e. low q out r x e i) out (end-part rule store w s sheet q out x i h)))
-      (λ above. inl (λ q′ out′ b′ r′ x′. alike q q′ b b′ r r′ out out′ x x′ i (record { inside = h; above = above })))
+      (end-formed rule store w s sheet q out x i) (λ e. low q out r x e i) out (value-part i out _ (end-part rule store w s sheet q out x i h))))
+      (λ above. inl (λ q′ out′ b′ r′ x′. value-alike i out out′ (alike q q′ b b′ r r′ out out′ x x′ i (record { inside = h; above = above }))))
 
 -- Theorem 4
 pub capability-deputy-safety : CapabilityDeputySafety

@@ -6,9 +6,9 @@ use mathlib.Core.Logic.{_⊎_, inl, inr, ⊎-elim}
 use mathlib.Core.Bool.{true, false}
 use mathlib.Core.List.{List, [], _∷_, _++_}
 use native.Mathlib.Omega.{arith}
-use lib.ListN.{getD, length, set, replicate, length-replicate}
+use lib.ListN.{getD, length, set, take, drop, replicate, length-replicate}
 use lib.Dec.{ltb}
-use lib.Seq.{getD-set-same}
+use lib.Seq.{getD-set-same, take-take, take-at}
 use borrow.Author.Tests.{ltb-true, lt-ltb, le-leb, eqb-true, eq-eqb}
 use Rattle.lattice.specs.Tests.{_and_, _or_, _implies_, every}
 use Rattle.lattice.specs.declared.Table.{Table}
@@ -20,9 +20,9 @@ use Rattle.store.specs.declared.Answer.{Answer}
 use Rattle.store.specs.Result.{Result, ok, _>>=_, require, refusedAs}
 use Rattle.store.specs.Bytes.{Bytes, numberAt, numberBytes, part}
 use Rattle.store.specs.declared.Value.{Value}
-use Rattle.store.specs.Value.{payloadWidth, valueWidth, integer, truth, readView, writeView, kinds, is, wellFormed, valueAt, valueBytes, opened, assigned, emptySlot, slotWidth, slotBytes}
+use Rattle.store.specs.Value.{payloadWidth, valueWidth, integer, truth, readView, writeView, kinds, is, wellFormed, valueAt, valueBytes, Slot, assigned, emptySlot, slotWidth, slotBytes}
 use Rattle.store.specs.Sheet.{Tables, ownerOf, mostSlots, storeSheet}
-use Rattle.store.proofs.Bytes.{value-read, value-again}
+use Rattle.store.proofs.Bytes.{length-value, value-read, value-again}
 use Rattle.store.proofs.Opening.{Opens}
 use Rattle.programme.specs.Syntax.{literal, cmd, assign}
 use Rattle.programme.specs.Code.{upTo, readValue, readLiteral, exprBy, readExpr, exprAt, sorted, cmdByte, readAssign, bodyBy, readBody, readBlock}
@@ -30,12 +30,12 @@ use Rattle.programme.proofs.Heading.{header-bare}
 use Rattle.programme.specs.Sheet.{Block, kOf, endorsedBit, headerOf, startOf, headerGood, blockAt, blocksFrom, programmeSheet}
 use Rattle.programme.proofs.Due.{expr-is-literal}
 use Rattle.calculus.specs.Rules.{RuleSet, accessControl, capability, explicitProvenance, fullProvenance, rulesOf, judgesViews, labelsJudged, allAbove, labelsSuffice}
-use Rattle.calculus.specs.Calculus.{Setting, Store, State, inRegion, mayHold, admit, eval, authorised, reliable, permit, assignment, counted, written, performed, step, exec, execBody}
+use Rattle.calculus.specs.Calculus.{limits, Setting, Store, State, contents, inRegion, mayHold, admit, eval, authorised, reliable, permit, assignment, counted, written, entryOf, recorded, performed, step, attempt, exec, execBody}
 use Rattle.calculus.specs.Blocks.{setting, runBlocks, start}
 use Rattle.calculus.specs.Run.{Call, call, Finished, runProgramme, runOpened, runUnder, run, answerOf, output}
 use Rattle.calculus.specs.Vectors.{lit, one}
 use Rattle.calculus.specs.Isolation.{withinReach}
-use Rattle.calculus.specs.Deputy.{DirectWrite}
+use Rattle.calculus.specs.Deputy.{ValueAlike, DirectWrite}
 use Rattle.calculus.proofs.Isolation.{output-part, opens}
 use Rattle.calculus.proofs.Taint.{Tainted}
 use Rattle.calculus.proofs.Capability.{Low}
@@ -86,6 +86,19 @@ module _ (m : ℕ) (l : m ≤ mostSlots) (v : Value) (h : wellFormed m v ≡ tru
   -- so it is well-formed when it is read back
   formed-again : wellFormed m (again v) ≡ true
   formed-again = ⊎-elim integer-again (λ x. rw (value-read v (omega arith) (omega arith)) h) formed-cases
+
+-- in an output, a value's bytes are the first of its slot's
+module _ (i : ℕ) (out : List ℕ) where
+  value-first : take valueWidth (part out (slotWidth * i) slotWidth) ≡ part out (slotWidth * i) valueWidth
+  value-first = take-take valueWidth slotWidth (drop (slotWidth * i) out) (omega arith)
+
+  pub value-part : (u : Slot) → part out (slotWidth * i) slotWidth ≡ slotBytes u → part out (slotWidth * i) valueWidth ≡ valueBytes (u .value)
+  unfolding slotBytes
+  value-part u e = sym value-first ∙ ap (take valueWidth) e ∙ take-at (valueBytes (u .value)) _ valueWidth (length-value (u .value))
+
+-- two slots that are alike have the same value
+pub value-alike : (i : ℕ) (out out′ : List ℕ) → part out (slotWidth * i) slotWidth ≡ part out′ (slotWidth * i) slotWidth → ValueAlike i out out′
+value-alike i out out′ e = sym (value-first i out) ∙ ap (take valueWidth) e ∙ value-first i out′
 
 -- Reading
 
@@ -168,7 +181,12 @@ programme-bytes a i v h =
 
 -- the state after the one step
 abbrev after : ℕ → Value → Store → State
-after i v s = record { store = set s i (assigned (again v) (getD s i emptySlot)); steps = 1 }
+after i v s =
+    record {
+      store = set s i (assigned (again v) (getD s i emptySlot));
+      steps = 1;
+      journal = record { block = 0; offset = 0; slot = i; old = contents s i; new = again v } ∷ [];
+    }
 
 -- whatever the rules judge of two literals at a block's start has the top label
 judged-top : (rules : RuleSet) (t : Table) (o l : Label) → below t o l ≡ true → allAbove t o (labelsJudged rules l l l) ≡ true
@@ -181,7 +199,7 @@ judged-top fullProvenance t o l h = rw h refl
 module _ (rules : RuleSet) (w : Tables) (a : Label) (i : ℕ) (v : Value) (s : Store) (own : Tainted w a (ownerOf w i))
     (high : below (w .order) (ownerOf w i) (top (w .order)) ≡ true) (low : judgesViews rules ≡ true → Low w a (again v)) where
   abbrev within : Setting
-  within = setting w rules 1 (block a i v)
+  within = setting w rules (limits 1 1) 0 (block a i v)
 
   holds-view : mayHold within (view i) ≡ true
   unfolding inRegion
@@ -196,9 +214,9 @@ module _ (rules : RuleSet) (w : Tables) (a : Label) (i : ℕ) (v : Value) (s : S
   may-write = imp-of _ _ (λ _. own)
 
   -- the slot's owner is at or below the region, and at or below the top, the label of both literals and of the branch
-  block-run : runBlocks w rules 1 0 (block a i v ∷ []) (start s) ≡ ok (after i v s)
+  block-run : runBlocks w rules (limits 1 1) 0 (block a i v ∷ []) (start s) ≡ ok (after i v s)
   unfolding _>>=_ require refusedAs _or_
-      admit eval labelsSuffice reliable permit assignment counted written performed step exec execBody runBlocks start
+      admit eval labelsSuffice reliable permit assignment counted written entryOf recorded performed step attempt exec execBody runBlocks start
   block-run = rw (holds-view, holds-value, may-write, judged-top rules (w .order) (ownerOf w i) (top (w .order)) high)
 
 module _ (rule : ℕ) (rules : RuleSet) (ruled : rulesOf rule ≡ ok rules)
@@ -222,7 +240,7 @@ module _ (rule : ℕ) (rules : RuleSet) (ruled : rulesOf rule ≡ ok rules)
   ending = record { blocks = 1; slots = w .slots; state = after i v s }
 
   abbrev sent-call : Call
-  sent-call = call store sent rule 1 blank
+  sent-call = call store sent rule 1 (length blank) 1
 
   sent-run : run sent-call ≡ ok ending
   unfolding runProgramme runOpened runUnder run _>>=_ require refusedAs
@@ -237,18 +255,19 @@ module _ (rule : ℕ) (rules : RuleSet) (ruled : rulesOf rule ≡ ok rules)
       )
 
   -- what is read back has v's bytes
-  sent-part : part (output sent-call blank) (slotWidth * i) slotWidth ≡ slotBytes (opened v)
-  unfolding slotBytes opened assigned
+  sent-part : part (output sent-call blank) (slotWidth * i) valueWidth ≡ valueBytes v
+  unfolding assigned
   sent-part =
-      output-part sent-call blank ending sent-run i in-i
-      ∙ ap slotBytes (getD-set-same s i _ emptySlot (omega (arith, o .small, o .sized))) ∙ value-again v
+      value-part i (output sent-call blank) _ (
+      output-part sent-call blank ending sent-run i in-i ∙ ap slotBytes (getD-set-same s i _ emptySlot (omega (arith, o .small, o .sized))))
+      ∙ value-again v
 
   sent-reached : (j : ℕ) → j < kOf sent → withinReach w adversary sent j ≡ true
   unfolding numberAt
   sent-reached zero h = rw (header-read adversary (omega (arith, t .few))) (t .self adversary in-a)
   sent-reached (suc j) h = absurd (omega arith)
 
-  pub direct-write : (out : List ℕ) → part out (slotWidth * i) slotWidth ≡ slotBytes (opened v) → DirectWrite rule w adversary store i out
+  pub direct-write : (out : List ℕ) → part out (slotWidth * i) valueWidth ≡ valueBytes v → DirectWrite rule w adversary store i out
   unfolding answerOf
   direct-write out e =
       record {
@@ -259,6 +278,7 @@ module _ (rule : ℕ) (rules : RuleSet) (ruled : rulesOf rule ≡ ok rules)
         finished =
             record {
               budget = 1;
+              entries = 1;
               old = blank;
               finishes = ap (λ (r : Result Answer Finished). answerOf r .number) sent-run;
               ends = refl;

@@ -5,7 +5,7 @@ use mathlib.Core.Logic.{inr}
 use mathlib.Core.Bool.{true, false, true≢false}
 use mathlib.Core.List.{List, _++_}
 use native.Mathlib.Omega.{arith}
-use lib.ListN.{getD}
+use lib.ListN.{getD, length}
 use Rattle.lattice.specs.Tests.{_and_, _or_, _implies_, every, some, find}
 use Rattle.lattice.specs.Order.{Label, below, bit, inRange, reflexive, antisymmetric, transitive, isMeet, hasMeets, isTop, hasTop, good, meet, top}
 use Rattle.store.specs.Result.{_>>=_, require, refusedAs, inTurn}
@@ -17,10 +17,10 @@ use Rattle.programme.specs.Code.{readValue, exprSorted, exprByte, readLiteral, 
 use Rattle.programme.specs.declared.Header.{Header}
 use Rattle.programme.specs.Sheet.{floorOf, headerOf, headerAt, startOf, headerGood, blockAt, blocksFrom, programmeSheet}
 use Rattle.calculus.specs.Rules.{rulesOf, judgesViews, judgesRegion, labelsJudged, allAbove, labelsSuffice}
-use Rattle.calculus.specs.Calculus.{inRegion, admit, fetch, eval, authorised, reliable, permit, assignment, counted, written, performed, step, exec, execBody}
+use Rattle.calculus.specs.Calculus.{inRegion, admit, fetch, eval, authorised, reliable, permit, assignment, counted, written, entryOf, recorded, performed, step, attempt, exec, execBody}
 use Rattle.calculus.specs.Blocks.{haltAnswer, runBlocks, start}
 use Rattle.calculus.specs.Run.{call, answer, output, runProgramme, runOpened, runUnder, run, answerOf, outputOf}
-use Rattle.calculus.specs.Vectors.{blank, int}
+use Rattle.calculus.specs.Vectors.{blank, plenty, int, wrote, kept}
 use Rattle.calculus.specs.Isolation.{StoresAgree, FloorsOutOfReach, byNumber, FullRun, IsolationWhere}
 use Rattle.calculus.specs.Endorsed.{EndorsedIsolation, FloorsLetIn, IsolationAtFloors, IsolationBelowFloors, left, right, tables, leaking, EndorsedWorked, FloorWorked}
 use Rattle.calculus.proofs.Isolation.{same-again}
@@ -34,9 +34,10 @@ agree two own e (suc zero) p = e
 agree two own e (suc (suc i)) p = absurd (omega (arith, p .inside))
 
 -- a run under full provenance
-ran : (store programme out : List ℕ) → answer (call store programme 3 10 blank) .number ≡ 0 → out ≡ output (call store programme 3 10 blank) blank
-    → FullRun store programme out
-ran store programme out f e = record { rule = 3; full = byNumber refl; run = record { budget = 10; old = blank; finishes = f; ends = e } }
+ran : (store programme out : List ℕ) → answer (call store programme 3 10 (length blank) plenty) .number ≡ 0
+    → out ≡ output (call store programme 3 10 (length blank) plenty) blank → FullRun store programme out
+ran store programme out f e =
+    record { rule = 3; full = byNumber refl; run = record { budget = 10; entries = plenty; old = blank; finishes = f; ends = e } }
 
 -- the programme's one block
 out-of-reach : below (tables .order) (headerAt (leaking 2) 0 .floor) 1 ≡ false → FloorsOutOfReach tables 1 (leaking 2)
@@ -57,15 +58,15 @@ unfolding runProgramme runOpened runUnder run answerOf outputOf
     readValue exprSorted exprByte readLiteral exprBy readExpr sorted cmdByte readAssign bodyBy readBody readBlock
     floorOf headerOf startOf headerGood blockAt blocksFrom programmeSheet
     rulesOf judgesViews judgesRegion labelsJudged allAbove labelsSuffice inRegion admit fetch eval authorised reliable permit assignment
-    counted written performed step exec execBody haltAnswer runBlocks start
+    counted written entryOf recorded performed step attempt exec execBody haltAnswer runBlocks start
 computed = (
   worked 1 refl (ran left (leaking 1) _ refl refl) (ran right (leaking 1) _ refl refl),
   worked 0 refl (ran left (leaking 0) _ refl refl) (ran right (leaking 0) _ refl refl),
   record { floors = out-of-reach refl; left-refused = refl; right-refused = refl },
 )
   where
-    worked : (floor : ℕ) → below (tables .order) floor 1 ≡ true → FullRun left (leaking floor) (int 5 ++ int 5)
-        → FullRun right (leaking floor) (int 6 ++ int 6) → EndorsedWorked floor
+    worked : (floor : ℕ) → below (tables .order) floor 1 ≡ true → FullRun left (leaking floor) (kept (int 5) ++ wrote 1 (int 5))
+        → FullRun right (leaking floor) (kept (int 6) ++ wrote 1 (int 6)) → EndorsedWorked floor
     worked floor low l r =
         record {
           left-opens = refl;

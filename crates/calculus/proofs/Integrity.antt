@@ -19,16 +19,16 @@ use Rattle.store.proofs.Result.{Any, post-all, post-map, bind-with}
 use Rattle.programme.specs.Sheet.{Block, kOf, headerAt}
 use Rattle.programme.proofs.Placed.{IsBlock, Placed, none, more}
 use Rattle.calculus.specs.Rules.{RuleSet}
-use Rattle.calculus.specs.Calculus.{Store, State, inRegion, written, exec}
+use Rattle.calculus.specs.Calculus.{Limits, limits, Store, State, inRegion, written, exec}
 use Rattle.calculus.specs.Blocks.{Halt, haltIn, setting, runBlocks}
-use Rattle.calculus.specs.Run.{Call, answer, output}
+use Rattle.calculus.specs.Run.{Call, limitsOf, answer, output}
 use Rattle.calculus.specs.Faithful.{Good}
 use Rattle.calculus.specs.Kept.{reached, stateWithin, Integrity, WriteIntegrity}
 use Rattle.calculus.proofs.Invariant.{all-ends}
 use Rattle.calculus.proofs.Authority.{assigned-in-region}
 use Rattle.calculus.proofs.Kept.{Keeps, at-reached, blocks-keep, blocks-placed, put-out-keeps}
 
-module _ (w : Tables) (rules : RuleSet) (k i : ℕ) where
+module _ (w : Tables) (rules : RuleSet) (k : Limits) (i : ℕ) where
   -- slot i holds d
   abbrev Steady : Slot → Store → Type 0
   Steady d s = getD s i emptySlot ≡ d
@@ -36,8 +36,8 @@ module _ (w : Tables) (rules : RuleSet) (k i : ℕ) where
   block-steady : (d : Slot) (j : ℕ) (b : Block) → below (w .order) (ownerOf w i) (b .header .region) ≡ false → Keeps (Steady d) w rules k j b
   unfolding written inRegion
   block-steady d j b out s m =
-      all-ends (setting w rules k b) (Steady d)
-      (λ branch s t v m. post-map _ _ _ _ _ (assigned-in-region (setting w rules k b) branch s t v)
+      all-ends (setting w rules k j b) (Steady d)
+      (λ branch s t v m. post-map _ _ _ _ _ (assigned-in-region (setting w rules k j b) branch s t v)
       (λ x p. getD-set-other s (x .slot) i _ emptySlot (λ e. true≢false (sym (rw (← e) at p) ∙ out)) ∙ m) (λ _ _. tt))
       (b .command) _ s m
 
@@ -59,7 +59,7 @@ module _ (w : Tables) (rules : RuleSet) (k i : ℕ) where
         (blocks-keep (Steady _) w rules k n (b ∷ []) (more (block-steady _ n b (rw (is .header) (rw e at out))) none) s refl)
     one-more n (b ∷ bs) (more is rest) (suc j) s out =
         let e : n + suc j ≡ n + 1 + j = omega arith in
-        bind-with SlotSame Any Any (refusedAs (haltIn n) (exec (setting w rules k b) (b .command) (top (w .order)) s)) _ _
+        bind-with SlotSame Any Any (refusedAs (haltIn n) (exec (setting w rules k n b) (b .command) (top (w .order)) s)) _ _
         (post-all _ _ _ (λ _. tt) (λ _. tt)) (λ t _. one-more (n + 1) bs rest j t (rw e at out)) (λ _. refl)
 
 module _ (c : Call) (old : List ℕ) (g : Good c) where
@@ -74,7 +74,7 @@ module _ (c : Call) (old : List ℕ) (g : Good c) where
   unfolding stateWithin
   within k j i out =
       let e : 0 + j ≡ j = omega arith in
-      rw (add-one) (one-more w (g .rules) k i (c .programme) 0 (g .blocks) (blocks-placed c old g) j _ (rw (← e) at out))
+      rw (add-one) (one-more w (g .rules) (limits k (c .entries)) i (c .programme) 0 (g .blocks) (blocks-placed c old g) j _ (rw (← e) at out))
 
   -- where no block's region has authority over slot i, no block changes it
   unowned : (i : ℕ) → some (kOf (c .programme)) (owned i) ≡ false → (j : ℕ) (b : Block) → IsBlock (w .slots) (c .programme) j b
@@ -85,7 +85,7 @@ module _ (c : Call) (old : List ℕ) (g : Good c) where
       → part (output c old) (slotWidth * i) slotWidth ≡ slotBytes (getD (g .opening .store) i emptySlot)
   same-output e i h out =
       let x =
-      put-out-keeps c old g (Steady w (g .rules) 0 i (getD (g .opening .store) i emptySlot)) refl
+      put-out-keeps c old g (Steady w (g .rules) (limitsOf c) i (getD (g .opening .store) i emptySlot)) refl
       (λ k j b is. block-steady w (g .rules) k i _ j b (unowned i out j b is)) e in
       x .2 i h ∙ ap slotBytes (x .1)
 

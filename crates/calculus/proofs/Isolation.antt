@@ -31,9 +31,9 @@ use Rattle.calculus.specs.Blocks.{runBlocks, start}
 use Rattle.calculus.proofs.Rules.{rules-post}
 use Rattle.calculus.proofs.Taint.{Tainted, Agree}
 use Rattle.calculus.proofs.Noninterference.{Alike, Opposite, alike, reached, blocks-isolated}
-use Rattle.calculus.specs.Run.{Call, call, Finished, runProgramme, runOpened, runUnder, run, answerOf, outputOf, output}
+use Rattle.calculus.specs.Run.{Call, call, limitsOf, Finished, runProgramme, runOpened, runUnder, run, answerOf, outputOf, entriesOf, output, entries}
 use Rattle.calculus.specs.Vectors.{none}
-use Rattle.calculus.specs.Isolation.{withinReach, StoresAgree, OutputsAgree, Replaced, unchanged, exchanged, Replacement, FloorOutOfReach, FloorsOutOfReach, FullRule, byNumber, byDefault, FullRules, FullRun, RunsAgreeWhere, Isolation, IsolationDownToFloors}
+use Rattle.calculus.specs.Isolation.{withinReach, StoresAgree, OutputsAgree, Replaced, unchanged, exchanged, Replacement, FloorOutOfReach, FloorsOutOfReach, FullRule, byNumber, byDefault, FullRules, FullRun, RunsAgreeWhere, Isolation, IsolationDownToFloors, naming, callIn, ProtectedEntriesAgree}
 use Rattle.calculus.specs.Deputy.{NoneEndorsedOutside}
 use Rattle.calculus.proofs.Finished.{run-finished}
 
@@ -119,7 +119,7 @@ module _ (w : Tables) (a : Label) where
         post₂-bind _ _ _ _ _ _ programmes-opposite λ bs cs k.
         post₂-require _ _ _ _ _ _ _ (
         post₂-bind _ _ _ _ _ _
-        (post₂-refused-as _ _ _ _ _ (blocks-isolated w a o in-a (c .budget) (c′ .budget) bs cs k 0 (start s) (start s′) m)) λ u v n.
+        (post₂-refused-as _ _ _ _ _ (blocks-isolated w a o in-a (limitsOf c) (limitsOf c′) bs cs k 0 (start s) (start s′) (record { stores = m; named = refl }))) λ u v n.
         post₂-ok _ _ _ _ (record { slots = refl; slots′ = refl; agree = n })))))
 
 -- Outputs
@@ -146,7 +146,7 @@ module _ (store : List ℕ) (w : Tables) (s : Store) (sheet : storeSheet store �
 
   -- as a call under full provenance, without a step
   abbrev blank-call : Call
-  blank-call = call store none 3 0 blank
+  blank-call = call store none 3 0 (length blank) 0
 
   blank-run : run blank-call ≡ ok ending
   unfolding runProgramme runOpened runUnder run ending rulesOf _>>=_ require refusedAs programmeSheet numberAt every startOf blocksFrom runBlocks _and_
@@ -161,6 +161,7 @@ module _ (store : List ℕ) (w : Tables) (s : Store) (sheet : storeSheet store �
         run =
             record {
               budget = 0;
+              entries = 0;
               old = blank;
               finishes = ap (λ (r : Result Answer Finished). answerOf r .number) blank-run;
               ends = refl;
@@ -194,22 +195,34 @@ module _ (a : Label) (store store′ : List ℕ) (w : Tables) (s s′ : Store)
       go i p (no l) = opens store w s sheet .outside i (omega arith) ∙ sym (opens store′ w s′ sheet′ .outside i (omega arith))
 
   -- the way forth needs no bytes: it holds of any lists of numbers
-  pub forth : a < w .order .n → StoresAgree w a s s′
-      → (p : List ℕ) → FloorsOutOfReach w a p → (q q′ : List ℕ) → Replacement w a p q → Replacement w a p q′
-      → (out out′ : List ℕ) → FullRun store q out → FullRun store′ q′ out′ → OutputsAgree w a out out′
-  forth in-a h p clear q q′ r r′ out out′ x x′ i b =
-      let c = call store q (x .rule) (x .run .budget) (x .run .old) in
-      let c′ = call store′ q′ (x′ .rule) (x′ .run .budget) (x′ .run .old) in
-      let f = run-finished c (x .run .finishes) in
-      let f′ = run-finished c′ (x′ .run .finishes) in
-      let e : Ends w a (f .0) (f′ .0) =
-      post₂-at _ _ _ _ _
-      (runs₂ w a (opens store w s sheet .ordered) in-a c c′ (x .full) (x′ .full) s s′ sheet sheet′ (opening-agrees h) p clear r r′) (f .1) (f′ .1) in
-      ap (λ (l : List ℕ). part l (slotWidth * i) slotWidth) (x .run .ends)
-      ∙ output-part c (x .run .old) (f .0) (f .1) i (rw (e .slots) (b .inside))
-      ∙ ap slotBytes (e .agree .held i (b .above))
-      ∙ sym (output-part c′ (x′ .run .old) (f′ .0) (f′ .1) i (rw (e .slots′) (b .inside)))
-      ∙ sym (ap (λ (l : List ℕ). part l (slotWidth * i) slotWidth) (x′ .run .ends))
+  module _ (in-a : a < w .order .n) (h : StoresAgree w a s s′) (p : List ℕ) (clear : FloorsOutOfReach w a p)
+      (q q′ : List ℕ) (r : Replacement w a p q) (r′ : Replacement w a p q′)
+      (out out′ : List ℕ) (x : FullRun store q out) (x′ : FullRun store′ q′ out′) where
+    abbrev end : (f : Finished) × (run (callIn x) ≡ ok f)
+    end = run-finished (callIn x) (x .run .finishes)
+
+    abbrev end′ : (f : Finished) × (run (callIn x′) ≡ ok f)
+    end′ = run-finished (callIn x′) (x′ .run .finishes)
+
+    ends : Ends w a (end .0) (end′ .0)
+    ends =
+        post₂-at _ _ _ _ _
+        (runs₂ w a (opens store w s sheet .ordered) in-a (callIn x) (callIn x′) (x .full) (x′ .full) s s′ sheet sheet′ (opening-agrees h) p clear r r′)
+        (end .1) (end′ .1)
+
+    pub forth : OutputsAgree w a out out′
+    forth i b =
+        ap (λ (l : List ℕ). part l (slotWidth * i) slotWidth) (x .run .ends)
+        ∙ output-part (callIn x) (x .run .old) (end .0) (end .1) i (rw (ends .slots) (b .inside))
+        ∙ ap slotBytes (ends .agree .stores .held i (b .above))
+        ∙ sym (output-part (callIn x′) (x′ .run .old) (end′ .0) (end′ .1) i (rw (ends .slots′) (b .inside)))
+        ∙ sym (ap (λ (l : List ℕ). part l (slotWidth * i) slotWidth) (x′ .run .ends))
+
+    named-alike : naming w a (entries (callIn x)) ≡ naming w a (entries (callIn x′))
+    unfolding entriesOf
+    named-alike =
+        ap (λ (f : Result Answer Finished). naming w a (entriesOf f)) (end .1) ∙ ends .agree .named
+        ∙ sym (ap (λ (f : Result Answer Finished). naming w a (entriesOf f)) (end′ .1))
 
   -- the way back asks one programme, the empty one
   back : (Condition : List ℕ → Type 0) → Condition none → Bytes store → Bytes store′ → RunsAgreeWhere Condition w a store store′
@@ -246,3 +259,9 @@ isolated a store store′ w s s′ in-a d d′ sheet sheet′ = (
   λ h p b bare. isolated-down-to-floors a store store′ w s s′ in-a d d′ sheet sheet′ .0 h p b (no-floors w a p (λ i l _. bare i l)),
   back a store store′ w s s′ sheet sheet′ _ (none-in-none _) d d′,
 )
+
+-- The journal
+
+pub protected-entries-agree : ProtectedEntriesAgree
+protected-entries-agree a store store′ w s s′ in-a _ _ sheet sheet′ h p _ clear q q′ _ _ r r′ out out′ x x′ =
+    named-alike a store store′ w s s′ sheet sheet′ in-a h p clear q q′ r r′ out out′ x x′

@@ -15,7 +15,7 @@ use Rattle.store.specs.Sheet.{ownerOf}
 use Rattle.store.proofs.Result.{Post, one-value, one-refusal, not-both, post-ok, post-map, post-bind, post-require}
 use Rattle.programme.specs.Syntax.{Expr, literal, read, operation, cmd, assign}
 use Rattle.calculus.specs.Rules.{RuleSet, accessControl, capability, explicitProvenance, fullProvenance, judgesViews, judgesRegion, labelsJudged, allAbove, labelsSuffice}
-use Rattle.calculus.specs.Calculus.{Setting, Store, Labelled, Judged, inRegion, mayHold, admit, fetch, operate, eval, judge, authorised, reliable, permit, assignment, written}
+use Rattle.calculus.specs.Calculus.{limits, Setting, Store, Labelled, Judged, inRegion, mayHold, admit, fetch, operate, eval, judge, authorised, reliable, permit, assignment, Memory, recorded}
 use Rattle.calculus.specs.Reduction.{Region, Trusts, by-owner, by-floor, semantics, asks, _⊢⟨_∣_⟩⇓_^_, Val, Deref, Operate, _⊢⟨_∣_⟩⇓if_^_, Guard, Code, _⨾_, ⟨_∣_∣_⟩, _⊢_⟶_, If, Else, While-1, While-2, Assign, Config}
 use Rattle.calculus.specs.Forbidden.{_⊢⟨_∣_⟩⇑_, Val-15, Deref-in, Deref-13, Deref-15, Left-in, Right-in, Operate-13, Task, judging, assigning, Tries, Tries-if, Tries-while, Tries-assign, _⊢⟨_∣_⟩✗_, Guard-in, Guard-13, Target-in, Target-13, Value-in, Assign-14, Assign-16}
 use Rattle.calculus.specs.Exact.{From13To16}
@@ -30,9 +30,9 @@ fails b f e p = true≢false (sym (f .1 p) ∙ e)
 failed : {P : Type 0} (b : Bool) → (b ≡ true) ↔ P → (P → ⊥) → b ≡ false
 failed b f n = is-false b (λ e. n (f .0 e))
 
--- a region, whatever the budget
+-- a region, whatever the limits
 abbrev pub regionOf : Setting → Region
-regionOf w = record { tables = w .tables; rules = w .rules; header = w .header }
+regionOf w = record { tables = w .tables; rules = w .rules; header = w .header; block = w .block }
 
 -- what a rule set asks is what its tests ask
 module _ (w : Setting) where
@@ -125,9 +125,9 @@ module _ (w : Setting) {H : Store} where
   asked-no (Assign-14 x p y a) = rw (eval-ok x, p, eval-ok y, failed _ (may-write w _) a)
   asked-no (Assign-16 x p y a b) = rw (eval-ok x, p, eval-ok y, may-write w _ .1 a, failed _ (may-trust w _ _ _ _) b)
 
--- the functions under some budget, which the rules don't know
+-- the functions within some limits, which the rules don't know
 abbrev settingOf : Region → Setting
-settingOf ρ = record { tables = ρ .tables; rules = ρ .rules; header = ρ .header; budget = 0 }
+settingOf ρ = record { tables = ρ .tables; rules = ρ .rules; header = ρ .header; block = ρ .block; limits = limits 0 0 }
 
 module _ {ρ : Region} {H : Store} where
   pub one-eval : {e : Expr} {v v′ : Value} {l l′ : Label} → ρ ⊢⟨ H ∣ e ⟩⇓ v ^ l → ρ ⊢⟨ H ∣ e ⟩⇓ v′ ^ l′ → v ≡ v′
@@ -140,7 +140,8 @@ module _ {ρ : Region} {H : Store} where
   pub one-number : {t : Task} {n n′ : ℕ} → ρ ⊢⟨ H ∣ t ⟩✗ n → ρ ⊢⟨ H ∣ t ⟩✗ n′ → n ≡ n′
   one-number x y = one-refusal _ _ _ (asked-no (settingOf ρ) x) (asked-no (settingOf ρ) y)
 
-  asked-ok : {PC : List Label} {k : Code} {D : Config} {at : ℕ} {t : Task} → ρ ⊢ ⟨ H ∣ PC ∣ k ⟩ ⟶ D → Tries PC k at t → asked (settingOf ρ) H t ≡ ok tt
+module _ {ρ : Region} {H : Memory} where
+  asked-ok : {PC : List Label} {k : Code} {D : Config} {at : ℕ} {t : Task} → ρ ⊢ ⟨ H ∣ PC ∣ k ⟩ ⟶ D → Tries PC k at t → asked (settingOf ρ) (H .store) t ≡ ok tt
   unfolding assignment permit require _>>=_
   asked-ok (If x) Tries-if = rw (judge-ok (settingOf ρ) x)
   asked-ok (Else x) Tries-if = rw (judge-ok (settingOf ρ) x)
@@ -151,10 +152,11 @@ module _ {ρ : Region} {H : Store} where
 
   -- a step that is made is not forbidden
   pub not-forbidden : {PC : List Label} {k : Code} {D : Config} {at n : ℕ} {t : Task}
-      → ρ ⊢ ⟨ H ∣ PC ∣ k ⟩ ⟶ D → Tries PC k at t → ρ ⊢⟨ H ∣ t ⟩✗ n → ⊥
+      → ρ ⊢ ⟨ H ∣ PC ∣ k ⟩ ⟶ D → Tries PC k at t → ρ ⊢⟨ H .store ∣ t ⟩✗ n → ⊥
   not-forbidden g x y = not-both _ _ _ (asked-ok g x) (asked-no (settingOf ρ) y)
 
-  -- the numbers that the rules forbid by
+-- the numbers that the rules forbid by
+module _ {ρ : Region} {H : Store} where
   eval-numbers : {e : Expr} {n : ℕ} → ρ ⊢⟨ H ∣ e ⟩⇑ n → From13To16 n
   eval-numbers (Val-15 p) = (omega arith, omega arith)
   eval-numbers (Deref-in x) = eval-numbers x
@@ -173,7 +175,7 @@ module _ {ρ : Region} {H : Store} where
   by-rule (Assign-14 x p y a) = (omega arith, omega arith)
   by-rule (Assign-16 x p y a b) = (omega arith, omega arith)
 
--- From the functions to the rules, whatever the budget
+-- From the functions to the rules, whatever the limits
 
 pub judged-as : {ρ : Region} {H : Store} {g : Expr} {b b′ : Bool} {l : Label} → ρ ⊢⟨ H ∣ g ⟩⇓if b ^ l → b ≡ b′ → ρ ⊢⟨ H ∣ g ⟩⇓if b′ ^ l
 judged-as (Guard x p q) e = Guard x p (q ∙ e)
@@ -198,14 +200,14 @@ module _ (w : Setting) where
       post-bind _ _ _ _ _ (post-map _ _ _ _ _ (evaluates H g) (λ x p. p) (λ n p. Guard-in p)) λ x p.
       post-require _ _ _ _ _ (λ q. post-ok _ _ _ (Guard p q refl)) (λ q. Guard-13 p q)
 
-  pub assigns : (H : Store) (pc : Label) (PC : List Label) (at : ℕ) (x y : Expr) (k : Code)
-      → Post (λ z. regionOf w ⊢ ⟨ H ∣ pc ∷ PC ∣ cmd at (assign x y) ⨾ k ⟩ ⟶ ⟨ written z H ∣ pc ∷ PC ∣ k ⟩)
-      (λ n. regionOf w ⊢⟨ H ∣ assigning pc x y ⟩✗ n) (assignment w pc H x y)
+  pub assigns : (H : Memory) (pc : Label) (PC : List Label) (at : ℕ) (x y : Expr) (k : Code)
+      → Post (λ z. regionOf w ⊢ ⟨ H ∣ pc ∷ PC ∣ cmd at (assign x y) ⨾ k ⟩ ⟶ ⟨ recorded (w .block) at z H ∣ pc ∷ PC ∣ k ⟩)
+      (λ n. regionOf w ⊢⟨ H .store ∣ assigning pc x y ⟩✗ n) (assignment w pc (H .store) x y)
   unfolding assignment permit
   assigns H pc PC at x y k =
-      post-bind _ _ _ _ _ (post-map _ _ _ _ _ (evaluates H x) (λ r p. p) (λ n p. Target-in p)) λ r p.
+      post-bind _ _ _ _ _ (post-map _ _ _ _ _ (evaluates (H .store) x) (λ r p. p) (λ n p. Target-in p)) λ r p.
       post-require _ _ _ _ _
-      (λ t. post-bind _ _ _ _ _ (post-map _ _ _ _ _ (evaluates H y) (λ v q. q) (λ n q. Value-in p t q)) λ v q.
+      (λ t. post-bind _ _ _ _ _ (post-map _ _ _ _ _ (evaluates (H .store) y) (λ v q. q) (λ n q. Value-in p t q)) λ v q.
       post-require _ _ _ _ _
       (λ a. post-require _ _ _ _ _
       (λ b. post-ok _ _ _ (Assign p t q (may-write w _ .0 a) (may-trust w _ _ _ _ .0 b)))

@@ -7,6 +7,7 @@ pub mod Operations
 pub mod Pairs
 pub mod Invariant
 pub mod Taint
+pub mod Akin
 pub mod Suffices
 pub mod Authority
 pub mod Confined
@@ -22,11 +23,15 @@ pub mod Milder
 pub mod Ladder
 pub mod OwnRefusals
 pub mod Kept
+pub mod Appends
 pub mod Judging
 pub mod Deterministic
 pub mod Reduces
 pub mod Comes
 pub mod Exact
+pub mod Walks
+pub mod Entries
+pub mod Written
 pub mod Stepwise
 pub mod ByRules
 pub mod Capability

@@ -8,9 +8,11 @@ use Rattle.calculus.proofs.While.{while-law}
 use Rattle.calculus.proofs.ByRules.{faithfulness-by-rules}
 use Rattle.calculus.proofs.Exact.{exactness}
 use Rattle.calculus.proofs.Faithful.{faithfulness}
-use Rattle.calculus.proofs.Isolation.{full-rule, isolated-down-to-floors, isolated}
+use Rattle.calculus.proofs.Isolation.{full-rule, isolated-down-to-floors, isolated, protected-entries-agree}
+use Rattle.calculus.proofs.Akin.{protected-tested}
+use Rattle.calculus.proofs.Written.{journal-tells}
 use Rattle.calculus.proofs.RuleNumbers.{rule-numbers}
-use Rattle.calculus.proofs.Ladder.{ladder, descent, budgets, further}
+use Rattle.calculus.proofs.Ladder.{ladder, descent, budgets, journals, further}
 use Rattle.calculus.proofs.OwnRefusals.{own-refusals}
 use Rattle.calculus.proofs.Kept.{steps-bounded}
 use Rattle.calculus.proofs.Stepwise.{step-by-step}
@@ -23,7 +25,7 @@ use Rattle.calculus.proofs.Chosen.{chosen-worked, not-enough-under-capa
 use Rattle.calculus.proofs.Endorsed.{endorsed-worked, floor-worked, endorsed-not-isolated, not-isolated-at-floors, not-isolated-below-floors}
 use Rattle.calculus.proofs.Unrelated.{unrelated-protected}
 use Rattle.calculus.proofs.Floors.{judged-by-meet, floors-ignored}
-use Rattle.calculus.proofs.Vectors.{vectors-hold, descents-hold, faults-hold, misreadings-hold, operations-hold, floors-hold}
+use Rattle.calculus.proofs.Vectors.{vectors-hold, descents-hold, faults-hold, misreadings-hold, operations-hold, floors-hold, journals-hold}
 
 pub promises : Promises
 promises =
@@ -78,4 +80,9 @@ promises =
       judged-by-meet = judged-by-meet;
       floors-ignored = floors-ignored;
       floors-hold = floors-hold;
+      journal-tells = journal-tells;
+      journals = journals;
+      protected-entries-agree = protected-entries-agree;
+      protected-tested = protected-tested;
+      journals-hold = journals-hold;
     }

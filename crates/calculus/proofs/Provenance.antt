@@ -17,7 +17,7 @@ use Rattle.programme.specs.Syntax.{Expr, literal, read, operation, LiteralsOf}
 use Rattle.programme.specs.Sheet.{Block}
 use Rattle.programme.proofs.Placed.{IsBlock}
 use Rattle.calculus.specs.Rules.{explicitProvenance, rulesOf, labelsJudged, allAbove}
-use Rattle.calculus.specs.Calculus.{Store, Labelled, contents, admit, fetch, eval, reliable, permit, assignment}
+use Rattle.calculus.specs.Calculus.{Limits, Store, Labelled, contents, admit, fetch, eval, reliable, permit, assignment}
 use Rattle.calculus.specs.Blocks.{setting}
 use Rattle.calculus.specs.Isolation.{withinReach, FloorOutOfReach, FloorsOutOfReach}
 use Rattle.calculus.specs.Kept.{BlocksSpare}
@@ -44,27 +44,27 @@ module _ (w : Tables) (a : Label) (o : Ordered w) (in-a : Principal w a) (u : St
   read-shown s agree j m taints =
       cases (below (w .order) (ownerOf w j) a) (λ e. inr (taints e)) (λ e. inl (rw (contents, agree .held j e) (high j e)))
 
-  module _ (k : ℕ) (b : Block) (clear : FloorOutOfReach w a (b .header)) where
-    shown : (s : Store) → Agree w a s u → (e : Expr) → LiteralsOf (Low w a) e → Post Shown Any (eval (setting w explicitProvenance k b) s e)
+  module _ (k : Limits) (j : ℕ) (b : Block) (clear : FloorOutOfReach w a (b .header)) where
+    shown : (s : Store) → Agree w a s u → (e : Expr) → LiteralsOf (Low w a) e → Post Shown Any (eval (setting w explicitProvenance k j b) s e)
     unfolding eval fetch admit LiteralsOf
     shown s m (literal v) l = post-require _ _ _ _ _ (λ _. post-ok _ _ _ (inl l)) (λ _. tt)
     shown s m (read e) l =
-        post-bind _ _ _ _ _ (eval-principal (setting w explicitProvenance k b) o s e) λ x h.
+        post-bind _ _ _ _ _ (eval-principal (setting w explicitProvenance k j b) o s e) λ x h.
         post-require _ _ _ _ _
         (λ _. post-require _ _ _ _ _
         (λ _. post-ok _ _ _ (read-shown s m (viewed (x .value)) _ (λ t. tainted-right w a o in-a _ _ h t))) (λ _. tt)) (λ _. tt)
     shown s m (operation f x y) l =
-        post-operation _ _ _ (setting w explicitProvenance k b) s f x y (shown s m x (l .0)) (shown s m y (l .1))
+        post-operation _ _ _ (setting w explicitProvenance k j b) s f x y (shown s m x (l .0)) (shown s m y (l .1))
         (λ x y _ _. inl (gives-low w a f _ _))
 
     -- a tainted target shuts protected slots out
-    by-target : (i : ℕ) (x y branch : Label) → reliable (setting w explicitProvenance k b) i (labelsJudged explicitProvenance x y branch) ≡ true
+    by-target : (i : ℕ) (x y branch : Label) → reliable (setting w explicitProvenance k j b) i (labelsJudged explicitProvenance x y branch) ≡ true
         → Tainted w a x → Tainted w a (ownerOf w i)
     unfolding reliable labelsJudged allAbove
     by-target i x y branch e = tainted-owner w a o in-a (b .header) clear _ _ x (λ z q. and-l _ _ q) e
 
     unprotected : (branch : Label) (s : Store) (t v : Expr) → LiteralsOf (Low w a) t → Agree w a s u
-        → Post (λ x. Tainted w a (ownerOf w (x .slot))) Any (assignment (setting w explicitProvenance k b) branch s t v)
+        → Post (λ x. Tainted w a (ownerOf w (x .slot))) Any (assignment (setting w explicitProvenance k j b) branch s t v)
     unfolding assignment permit
     unprotected branch s t v l m =
         post-bind _ _ _ _ _ (shown s m t l) λ x p.
@@ -76,13 +76,13 @@ module _ (w : Tables) (a : Label) (o : Ordered w) (in-a : Principal w a) (u : St
         (λ _. tt)
 
   module _ (p : List ℕ) (spare : BlocksSpare w a p) (clear : FloorsOutOfReach w a p) where
-    block-agrees : (k j : ℕ) (b : Block) → IsBlock (w .slots) p j b → Keeps (λ t. Agree w a t u) w explicitProvenance k j b
+    block-agrees : (k : Limits) (j : ℕ) (b : Block) → IsBlock (w .slots) p j b → Keeps (λ t. Agree w a t u) w explicitProvenance k j b
     block-agrees k j b is s m =
         cases (withinReach w a p j)
-        (λ e. reach-keeps (setting w explicitProvenance k b) a o in-a (rw (is .header) e) u (b .command) _ s m)
+        (λ e. reach-keeps (setting w explicitProvenance k j b) a o in-a (rw (is .header) e) u (b .command) _ s m)
         (λ e.
-        exec-ends (setting w explicitProvenance k b) (λ t. Agree w a t u) (Low w a)
-        (λ branch s t v l _ m. post-map _ _ _ _ _ (unprotected k b (rw (is .header) (clear j (is .inside) e)) branch s t v l m)
+        exec-ends (setting w explicitProvenance k j b) (λ t. Agree w a t u) (Low w a)
+        (λ branch s t v l _ m. post-map _ _ _ _ _ (unprotected k j b (rw (is .header) (clear j (is .inside) e)) branch s t v l m)
         (λ x q. agree-tainted w a x s u q m) (λ _ _. tt))
         (b .command) (low-literals w a p j b is (spare j (is .inside) e (b .command) (is .code))) _ s m)
 

@@ -1,11 +1,12 @@
 -- Source 003, theorem 5, fails over whole runs that have endorsed blocks: the example, by computation. Assumes nothing.
-use Prim.Native.Nat.{ℕ, zero, suc, _<_}
+use Prim.Native.Nat.{ℕ, zero, suc, _*_, _<_}
 use mathlib.Core.Path.{_≡_, refl, sym, ap, _∙_}
 use mathlib.Core.Logic.{⊎-elim}
 use mathlib.Core.Bool.{true, false, true≢false}
-use mathlib.Core.List.{List, _++_}
+use mathlib.Core.List.{List}
 use native.Mathlib.Omega.{arith}
-use lib.ListN.{getD}
+use lib.ListN.{getD, length, replicate, take, drop}
+use lib.Seq.{take-take}
 use Rattle.lattice.specs.Tests.{_and_, _or_, _implies_, every, some, find}
 use Rattle.lattice.specs.Order.{below, bit, inRange, reflexive, antisymmetric, transitive, isMeet, hasMeets, isTop, hasTop, good, meet, top}
 use Rattle.lattice.proofs.Tests.{some-at, some-of}
@@ -21,13 +22,13 @@ use Rattle.programme.specs.Code.{readValue, exprSorted, exprByte, readLiteral, 
 use Rattle.programme.specs.Sheet.{kOf, floorOf, headerOf, headerAt, codeOf, startOf, headerGood, blockAt, blocksFrom, programmeSheet}
 use Rattle.programme.proofs.Literals.{literals-join}
 use Rattle.calculus.specs.Rules.{rulesOf, judgesViews, judgesRegion, labelsJudged, allAbove, labelsSuffice}
-use Rattle.calculus.specs.Calculus.{contents, inRegion, admit, fetch, eval, judge, authorised, reliable, permit, assignment, counted, written, performed, step, choose, exec, execBody}
+use Rattle.calculus.specs.Calculus.{contents, inRegion, admit, fetch, eval, judge, authorised, reliable, permit, assignment, counted, written, entryOf, recorded, performed, step, attempt, choose, exec, execBody}
 use Rattle.calculus.specs.Blocks.{runBlocks, start}
 use Rattle.calculus.specs.Run.{call, runProgramme, runOpened, runUnder, run, answerOf, outputOf}
-use Rattle.calculus.specs.Vectors.{int}
+use Rattle.calculus.specs.Vectors.{plenty}
 use Rattle.calculus.specs.Isolation.{withinReach, FloorsOutOfReach, unchanged, exchanged, Replaced, Replacement}
 use Rattle.calculus.specs.Kept.{Spares}
-use Rattle.calculus.specs.Deputy.{ProtectedSpare, BareBlocksSpare, NoControl, DirectWrite}
+use Rattle.calculus.specs.Deputy.{ProtectedSpare, BareBlocksSpare, ValueAlike, NoControl, DirectWrite}
 use Rattle.calculus.specs.Whole.{WholeRunSafety, sheet, tables, slots, sent, left, WholeWorked}
 use Rattle.calculus.proofs.Taint.{tainted-down}
 use Rattle.calculus.proofs.Isolation.{same-again, opens}
@@ -35,7 +36,7 @@ use Rattle.calculus.proofs.Good.{good-run}
 use Rattle.calculus.proofs.Integrity.{write-integrity}
 
 abbrev old : List ℕ
-old = int 0 ++ int 0 ++ int 0
+old = replicate (slotWidth * 3) 0
 
 abbrev NoView : Value → Type 0
 NoView v = isWriteView v ≡ false
@@ -83,7 +84,7 @@ unfolding runProgramme runOpened runUnder run answerOf outputOf
     readValue exprSorted exprByte readLiteral exprBy readExpr sorted cmdByte readAssign readIf bodyBy readBody readBlock
     floorOf headerOf startOf headerGood blockAt blocksFrom programmeSheet Post LiteralsOf Exprs ExprsBody
     rulesOf judgesViews judgesRegion labelsJudged allAbove labelsSuffice inRegion admit fetch eval judge authorised reliable permit assignment
-    counted written performed step choose exec execBody runBlocks start
+    counted written entryOf recorded performed step attempt choose exec execBody runBlocks start
 whole-worked =
     record {
       opens = refl;
@@ -96,24 +97,27 @@ whole-worked =
       floors = floors refl refl refl;
       other = other refl refl;
       seven = refl;
-      left-run = record { budget = 10; old = old; finishes = refl; ends = refl };
-      right-run = record { budget = 10; old = old; finishes = refl; ends = refl };
+      left-run = record { budget = 10; entries = plenty; old = old; finishes = refl; ends = refl };
+      right-run = record { budget = 10; entries = plenty; old = old; finishes = refl; ends = refl };
     }
 
 -- slot 1 opened with 7
-changed : int 41 ≡ slotBytes (getD slots 1 emptySlot) → ⊥
-changed same = let e : _≡_ {A = ℕ} 41 7 = ap (λ (l : List ℕ). getD l 1 0) (same ∙ whole-worked .seven) in omega arith
+changed : (out : List ℕ) → ValueAlike 1 left out → part out slotWidth slotWidth ≡ slotBytes (getD slots 1 emptySlot) → ⊥
+changed out alike same =
+    let first = take-take valueWidth slotWidth (drop slotWidth out) (omega arith) in
+    let e : _≡_ {A = ℕ} 41 7 = ap (λ (l : List ℕ). getD l 1 0) (alike ∙ sym first ∙ ap (take valueWidth) (same ∙ whole-worked .seven)) in
+    omega arith
 
 -- no block within the adversary's reach has authority over slot 1, so such blocks alone leave it as it opened
 not-direct : DirectWrite 2 tables 0 sheet 1 left → ⊥
 not-direct d =
     let r = d .finished in
-    let c = call sheet (d .programme) 2 (r .budget) (r .old) in
+    let c = call sheet (d .programme) 2 (r .budget) (length (r .old)) (r .entries) in
     let g = good-run c _ (whole-worked .opens) (r .finishes) in
     let x =
     some-at _ _
     (write-integrity c (r .old) g .put-out (r .finishes) 1 (whole-worked .protected .inside)
-    (λ same. changed (d .alike ∙ ap (λ (l : List ℕ). part l slotWidth valueWidth) (r .ends) ∙ same))) in
+    (λ same. changed (d .end) (d .alike) (ap (λ (l : List ℕ). part l slotWidth slotWidth) (r .ends) ∙ same))) in
     let o = opens sheet tables slots (whole-worked .opens) .ordered in
     let low = tainted-down tables 0 o (whole-worked .principal) _ _ (x .2) (d .reached (x .0) (x .1)) in
     true≢false (sym low ∙ whole-worked .protected .above)

@@ -11,7 +11,7 @@ use Rattle.store.specs.Value.{integer}
 use Rattle.store.specs.Sheet.{Tables, ownerOf, tablesOf, openingOf, storeSheet}
 use Rattle.calculus.specs.Calculus.{Store, contents}
 use Rattle.calculus.specs.Run.{FinishedRun}
-use Rattle.calculus.specs.Vectors.{int, reads, writes, assign, lit, read, both}
+use Rattle.calculus.specs.Vectors.{int, reads, writes, wrote, kept, assign, lit, read, both}
 use Rattle.calculus.specs.Isolation.{Protected, Replacement}
 use Rattle.calculus.specs.Deputy.{Prevents, Noninterference}
 
@@ -43,7 +43,7 @@ sent x = both 0 (chooses x) 1 obeys
 
 -- what the run ends with
 abbrev pub left : ℕ → List ℕ
-left x = reads x ++ writes x ++ writes 2 ++ writes 3
+left x = wrote 1 (reads x) ++ wrote 1 (writes x) ++ kept (writes 2) ++ kept (writes 3)
 
 -- Whatever the adversary sends, protected slots stay as they open. Slot 1, the adversary's own, ends with the write view that it chose.
 pub record ChosenWorked : Type 0 where

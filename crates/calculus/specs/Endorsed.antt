@@ -6,12 +6,13 @@ use mathlib.Core.Path.{_≡_}
 use mathlib.Core.Logic.{_⊎_}
 use mathlib.Core.Bool.{true, false}
 use mathlib.Core.List.{List, _∷_, _++_}
+use lib.ListN.{length}
 use Rattle.lattice.specs.Order.{Label, below}
 use Rattle.store.specs.Result.{ok, says}
 use Rattle.store.specs.Sheet.{Tables, tablesOf, openingOf, storeSheet}
 use Rattle.programme.specs.Sheet.{kOf, headerAt}
 use Rattle.calculus.specs.Run.{call, answer}
-use Rattle.calculus.specs.Vectors.{int, oneDownTo, copy, blank}
+use Rattle.calculus.specs.Vectors.{int, wrote, kept, oneDownTo, copy, blank, plenty}
 use Rattle.calculus.specs.Isolation.{Protected, withinReach, StoresAgree, FloorsOutOfReach, FullRun, IsolationWhere}
 
 -- demand 3 with all endorsed blocks let in
@@ -60,11 +61,11 @@ pub record EndorsedWorked (floor : ℕ) : Type 0 where
   pub outside : withinReach tables 1 (leaking floor) 0 ≡ false
   pub header : headerAt (leaking floor) 0 ≡ record { region = 2; endorsed = true; floor = floor }
   pub low : below (tables .order) floor 1 ≡ true
-  pub left-run : FullRun left (leaking floor) (int 5 ++ int 5)
-  pub right-run : FullRun right (leaking floor) (int 6 ++ int 6)
+  pub left-run : FullRun left (leaking floor) (kept (int 5) ++ wrote 1 (int 5))
+  pub right-run : FullRun right (leaking floor) (kept (int 6) ++ wrote 1 (int 6))
 
 -- With principal 2 for its floor, which is out of the adversary's reach, the block is refused over both.
 pub record FloorWorked : Type 0 where
   pub floors : FloorsOutOfReach tables 1 (leaking 2)
-  pub left-refused : answer (call left (leaking 2) 3 10 blank) ≡ says 16 0 0 0
-  pub right-refused : answer (call right (leaking 2) 3 10 blank) ≡ says 16 0 0 0
+  pub left-refused : answer (call left (leaking 2) 3 10 (length blank) plenty) ≡ says 16 0 0 0
+  pub right-refused : answer (call right (leaking 2) 3 10 (length blank) plenty) ≡ says 16 0 0 0

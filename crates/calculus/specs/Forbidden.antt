@@ -1,17 +1,18 @@
--- The steps that the rules forbid, and the step that a spent budget forbids: "13 wrong kind for a guard, read or target; 14 region lacks authority;
--- 15 write view not allowed to this region; 16 provenance too low; 17 budget spent". Source 003 has no rule for them: it leaves such a run stuck. In
+-- The steps that the rules forbid, and those that a spent budget or a full journal forbids: "13 wrong kind for a guard, read or target; 14 region lacks authority;
+-- 15 write view not allowed to this region; 16 provenance too low; 17 budget spent"; 18. Source 003 has no rule for them: it leaves such a run stuck. In
 -- a rule's name a number is what forbids, and `in` is a fault of a part. Assumes nothing.
 use Prim.Native.Nat.{ℕ}
 use mathlib.Core.Path.{_≡_}
 use mathlib.Core.Bool.{true, false}
 use mathlib.Core.List.{List, _∷_}
+use lib.ListN.{length}
 use Rattle.lattice.specs.Order.{Label}
 use Rattle.store.specs.declared.Value.{Value}
 use Rattle.store.specs.Value.{truth, readView, is, isWriteView, viewed}
 use Rattle.programme.specs.declared.Header.{Header}
 use Rattle.programme.specs.Syntax.{Op, Expr, literal, read, operation, Cmd, cmd, assign, if, while}
 use Rattle.programme.specs.Sheet.{Block}
-use Rattle.calculus.specs.Calculus.{Store, contents, takes, stopAt}
+use Rattle.calculus.specs.Calculus.{Limits, Store, contents, takes, Memory, stateAt, stopAt}
 use Rattle.calculus.specs.Blocks.{Halt, haltIn}
 use Rattle.calculus.specs.Reduction.{Region, asks, _⊢⟨_∣_⟩⇓_^_, Code, _⨾_, ⟨_∣_∣_⟩, Stage, during}
 
@@ -56,12 +57,17 @@ pub data Tries : List Label → Code → ℕ → Task → Type 0 where
   Tries-assign : {pc : Label} {PC : List Label} {at : ℕ} {x y : Expr} {k : Code} → Tries (pc ∷ PC) (cmd at (assign x y) ⨾ k) at (assigning pc x y)
 
 -- By the rules: a run that may not go on, and how it is stopped. "A forbidden step is not counted."
-pub data Forbidden (ρ : Header → Region) : Stage → Halt → Type 0 where
-  Forbid : {i n at number : ℕ} {h : Header} {H : Store} {PC : List Label} {k : Code} {t : Task} {bs : List Block}
-      → Tries PC k at t → ρ h ⊢⟨ H ∣ t ⟩✗ number
-      → Forbidden ρ (during i n h ⟨ H ∣ PC ∣ k ⟩ bs) (haltIn i (stopAt at (record { store = H; steps = n }) number))
+pub data Forbidden (ρ : ℕ → Header → Region) : Stage → Halt → Type 0 where
+  Forbid : {i n at number : ℕ} {h : Header} {H : Memory} {PC : List Label} {k : Code} {t : Task} {bs : List Block}
+      → Tries PC k at t → ρ i h ⊢⟨ H .store ∣ t ⟩✗ number
+      → Forbidden ρ (during i n h ⟨ H ∣ PC ∣ k ⟩ bs) (haltIn i (stopAt at (stateAt n H) number))
 
--- By a budget: a run that comes to a step, and how it is stopped there: "Before each step, if steps done equal the budget, the run is spent."
-pub data Due : Stage → Halt → Type 0 where
-  Due-17 : {i n at : ℕ} {h : Header} {H : Store} {PC : List Label} {k : Code} {t : Task} {bs : List Block}
-      → Tries PC k at t → Due (during i n h ⟨ H ∣ PC ∣ k ⟩ bs) (haltIn i (stopAt at (record { store = H; steps = n }) 17))
+-- By its limits: a run that comes to a step, and how it is stopped there, before anything of it is judged
+pub data Due (l : Limits) : Stage → Halt → Type 0 where
+  -- "Before each step, if steps done equal the budget, the run is spent."
+  Due-17 : {i n at : ℕ} {h : Header} {H : Memory} {PC : List Label} {k : Code} {t : Task} {bs : List Block}
+      → Tries PC k at t → n ≡ l .budget → Due l (during i n h ⟨ H ∣ PC ∣ k ⟩ bs) (haltIn i (stopAt at (stateAt n H) 17))
+  -- "18 when an assignment comes and no entry is free, judged after 17 and before the target is evaluated." (document 02, N7)
+  Due-18 : {i n at : ℕ} {h : Header} {H : Memory} {PC : List Label} {k : Code} {pc : Label} {x y : Expr} {bs : List Block}
+      → Tries PC k at (assigning pc x y) → (n ≡ l .budget → ⊥) → length (H .journal) ≡ l .entries
+      → Due l (during i n h ⟨ H ∣ PC ∣ k ⟩ bs) (haltIn i (stopAt at (stateAt n H) 18))

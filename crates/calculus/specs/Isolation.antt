@@ -2,10 +2,13 @@
 use Prim.Native.Nat.{ℕ, _*_, _<_}
 use mathlib.Core.Path.{_≡_}
 use mathlib.Core.Logic.{_↔_}
-use mathlib.Core.Bool.{Bool, true, false}
-use mathlib.Core.List.{List}
-use lib.ListN.{getD}
+use mathlib.Core.Bool.{Bool, true, false, not}
+use mathlib.Core.List.{List, [], _∷_}
+use lib.ListN.{getD, length}
+use lib.Dec.{ltb}
+use Rattle.lattice.specs.Tests.{_and_}
 use Rattle.lattice.specs.Order.{Label, below}
+use Rattle.store.specs.declared.Entry.{Entry}
 use Rattle.store.specs.Result.{ok}
 use Rattle.store.specs.Bytes.{Bytes, part}
 use Rattle.store.specs.Value.{slotWidth, emptySlot}
@@ -14,7 +17,7 @@ use Rattle.programme.specs.declared.Header.{Header}
 use Rattle.programme.specs.Sheet.{kOf, headerAt, codeOf}
 use Rattle.calculus.specs.Rules.{fullProvenance, rulesOf}
 use Rattle.calculus.specs.Calculus.{Store}
-use Rattle.calculus.specs.Run.{FinishedRun}
+use Rattle.calculus.specs.Run.{Call, call, entries, FinishedRun}
 
 -- "A slot is protected from it .. when its owner does not stand at or below it."
 pub record Protected (w : Tables) (adversary : Label) (i : ℕ) : Type 0 where
@@ -25,7 +28,7 @@ pub record Protected (w : Tables) (adversary : Label) (i : ℕ) : Type 0 where
 abbrev pub withinReach : Tables → Label → List ℕ → ℕ → Bool
 withinReach w adversary p i = below (w .order) (headerAt p i .region) adversary
 
--- "Two slots are equal when kind and payload are": in stores, and in outputs
+-- "Two slots are equal when kind and payload are, and whatever a request adds to their records": in stores, and in outputs
 abbrev pub StoresAgree : Tables → Label → Store → Store → Type 0
 StoresAgree w adversary s s′ = (i : ℕ) → Protected w adversary i → getD s i emptySlot ≡ getD s′ i emptySlot
 
@@ -100,3 +103,36 @@ Isolation = IsolationWhere (λ w adversary p. NoneEndorsed p)
 -- Demand 3 as document 02, N6 widens it
 abbrev pub IsolationDownToFloors : Type 0
 IsolationDownToFloors = IsolationWhere FloorsOutOfReach
+
+-- The journal (document 02, N7). What follows goes beyond demand 3, which compares protected slots alone.
+
+-- a slot is protected, as a test
+unfoldable pub protects : Tables → Label → ℕ → Bool
+protects w adversary i = ltb i (w .slots) and not (below (w .order) (ownerOf w i) adversary)
+
+abbrev pub ProtectedTested : Type 0
+ProtectedTested = (w : Tables) (adversary : Label) (i : ℕ) → (protects w adversary i ≡ true) ↔ Protected w adversary i
+
+-- the entries that name protected slots, in order
+unfoldable pub naming : Tables → Label → List Entry → List Entry
+naming w adversary [] = []
+naming w adversary (e ∷ es) = elim (protects w adversary (e .slot)) [ true ↦ e ∷ naming w adversary es | false ↦ naming w adversary es ]
+
+-- the call of a run under full provenance
+abbrev pub callIn : {store programme out : List ℕ} → FullRun store programme out → Call
+callIn {store} {programme} x = call store programme (x .rule) (x .run .budget) (length (x .run .old)) (x .run .entries)
+
+-- Of two finished runs as in demand 3, down to floors, over stores that agree: the entries that name protected slots are the same list. The journals
+-- need not be equally long.
+abbrev pub ProtectedEntriesAgree : Type 0
+ProtectedEntriesAgree =
+    (adversary : Label) (store store′ : List ℕ) (w : Tables) (s s′ : Store)
+    → adversary < w .order .n
+    → Bytes store → Bytes store′
+    → storeSheet store ≡ ok (record { tables = w; store = s })
+    → storeSheet store′ ≡ ok (record { tables = w; store = s′ })
+    → StoresAgree w adversary s s′
+    → (p : List ℕ) → Bytes p → FloorsOutOfReach w adversary p
+    → (q q′ : List ℕ) → Bytes q → Bytes q′ → Replacement w adversary p q → Replacement w adversary p q′
+    → (out out′ : List ℕ) (x : FullRun store q out) (x′ : FullRun store′ q′ out′)
+    → naming w adversary (entries (callIn x)) ≡ naming w adversary (entries (callIn x′))

@@ -14,7 +14,7 @@ use Rattle.store.specs.Sheet.{Tables, ownerOf}
 use Rattle.programme.specs.Syntax.{Expr, Cmd, cmd, assign, seq, if, while, Cmds, cons, Literals}
 use Rattle.programme.specs.Code.{readBlock}
 use Rattle.programme.specs.Sheet.{Block, kOf, headerAt, codeOf, blockAt}
-use Rattle.calculus.specs.Calculus.{Setting, Store, Judged, State, contents, judge, assignment, counted, performed, stopAt, exec}
+use Rattle.calculus.specs.Calculus.{limits, Setting, Store, Judged, State, contents, judge, attempt, counted, performed, stopAt, exec}
 use Rattle.calculus.specs.Forbidden.{Task, judging, assigning}
 use Rattle.calculus.specs.Blocks.{Halt, haltIn, setting, runBlocks, start}
 use Rattle.calculus.specs.Run.{Call, answer, output}
@@ -31,7 +31,7 @@ reached (refuse h) = h .stop .state
 module _ {c : Call} (g : Good c) where
   -- the run of the first j blocks that k steps are allowed
   abbrev pub runWithin : ℕ → ℕ → Result Halt State
-  runWithin k j = runBlocks (g .opening .tables) (g .rules) k 0 (take j (g .blocks)) (start (g .opening .store))
+  runWithin k j = runBlocks (g .opening .tables) (g .rules) (limits k (c .entries)) 0 (take j (g .blocks)) (start (g .opening .store))
 
   -- the state after k steps of the first j blocks: where that run is; one that ends or is stopped before k steps stays there
   unfoldable pub stateWithin : ℕ → ℕ → State
@@ -47,10 +47,10 @@ module _ {c : Call} (g : Good c) where
   abbrev pub storeAfter : ℕ → Store
   storeAfter k = stateAfter k .store
 
--- what a step comes to in a state: the state after it, or the number that forbids it
-unfoldable pub outcome : Setting → State → Task → Result ℕ State
-outcome w s (judging g) = judge w (s .store) g >>= λ j. ok (counted s)
-outcome w s (assigning branch target value) = assignment w branch (s .store) target value >>= λ x. ok (performed x s)
+-- what a step at an offset comes to in a state: the state after it, or the number that forbids it
+unfoldable pub outcome : Setting → ℕ → State → Task → Result ℕ State
+outcome w at s (judging g) = judge w (s .store) g >>= λ j. ok (counted s)
+outcome w at s (assigning branch target value) = attempt w branch s target value >>= λ x. ok (performed w at x s)
 
 -- a step that is next: the offset of its command, the state that it meets, what it is to do
 pub record Place : Type 0 where
@@ -97,16 +97,17 @@ module _ {c : Call} (g : Good c) (k : ℕ) where
     pub place : Place
     pub listed : blockAt (g .opening .tables .slots) (c .programme) number ≡ ok block
     pub entered : runWithin g k number ≡ ok entry
-    pub comes : Comes (setting (g .opening .tables) (g .rules) k block) (block .command) (top (g .opening .tables .order)) entry place
+    pub comes : Comes (setting (g .opening .tables) (g .rules) (limits k (c .entries)) number block) (block .command) (top (g .opening .tables .order)) entry place
     pub done : place .state .steps ≡ k
     pub stops : runAfter g k ≡ refuse (haltIn number (stopAt (place .offset) (place .state) 17))
 
   -- what the step that is next comes to
   abbrev pub due : OutOfBudget → Result ℕ State
-  due p = outcome (setting (g .opening .tables) (g .rules) k (p .block)) (p .place .state) (p .place .task)
+  due p =
+      outcome (setting (g .opening .tables) (g .rules) (limits k (c .entries)) (p .number) (p .block)) (p .place .offset) (p .place .state) (p .place .task)
 
-  -- The run that k + 1 steps are allowed: the same, where it had ended, or after fewer than k steps the rules forbade one; where it was out of budget,
-  -- it is on by the step that is next, or the rules forbid that one there: "A forbidden step is not counted."
+  -- The run that k + 1 steps are allowed: the same, where it had ended, or after fewer than k steps the rules or a full journal forbade one; where it
+  -- was out of budget, it is on by the step that is next, or they forbid that one there: "A forbidden step is not counted."
   pub data Next : Result Halt State → Type 0 where
     ended : {s : State} → runAfter g k ≡ ok s → Next (ok s)
     refused : {h : Halt} → runAfter g k ≡ refuse h → (h .stop .number ≡ 17 → ⊥) → h .stop .state .steps < k → Next (refuse h)

@@ -1,12 +1,12 @@
--- Document 02, N2: the rule ladder, and larger budgets, for every call. Assumes nothing.
+-- Document 02, N2 and N7: the rule ladder, larger budgets and longer journals, for every call. Assumes nothing.
 use Prim.Native.Nat.{ℕ, _≤_}
 use mathlib.Core.Path.{_≡_}
 use mathlib.Core.List.{List}
 use Rattle.calculus.specs.Blocks.{mostBudget}
-use Rattle.calculus.specs.Run.{Call, underRule, withBudget, answer, EndsAlike}
+use Rattle.calculus.specs.Run.{Call, underRule, withBudget, withEntries, answer, EndsAlike}
 use Rattle.calculus.specs.Faithful.{Good}
 
--- a run that finishes under the first rule number finishes under the second, with the same answer and the same output
+-- a run that finishes under the first rule number finishes under the second, with the same answer, output and entries
 abbrev pub FinishesToo : ℕ → ℕ → Type 0
 FinishesToo rule rule′ =
     (c : Call) (old : List ℕ) → answer (underRule rule c) .number ≡ 0 → EndsAlike (underRule rule c) (underRule rule′ c) old
@@ -37,6 +37,7 @@ pub record Further : Type 0 where
   pub from-2-to-0 : GoesAsFar 2 0
   pub from-1-to-0 : GoesAsFar 1 0
   pub larger-budget : (c : Call) (budget : ℕ) → c .budget ≤ budget → budget ≤ mostBudget → answer c .steps ≤ answer (withBudget budget c) .steps
+  pub longer-journal : (c : Call) (entries : ℕ) → c .entries ≤ entries → answer c .steps ≤ answer (withEntries entries c) .steps
 
 -- What cannot happen: a run with good sheets and arguments is not refused by n under the rule number.
 abbrev pub NeverBy : ℕ → ℕ → Type 0
@@ -60,3 +61,11 @@ Budgets =
     → c .budget ≤ budget → budget ≤ mostBudget
     → (answer c .number ≡ 17 → ⊥)
     → EndsAlike c (withBudget budget c) old
+
+-- The same of the journal (document 02, N7): a longer one never alters a run that already got an answer other than 18.
+abbrev pub Journals : Type 0
+Journals =
+    (c : Call) (entries : ℕ) (old : List ℕ)
+    → c .entries ≤ entries
+    → (answer c .number ≡ 18 → ⊥)
+    → EndsAlike c (withEntries entries c) old

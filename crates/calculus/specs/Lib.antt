@@ -10,6 +10,7 @@ pub mod Ladder
 pub mod Isolation
 pub mod Kept
 pub mod Exact
+pub mod Written
 pub mod Steps
 pub mod Deputy
 pub mod Vectors
@@ -22,4 +23,5 @@ pub mod Descents
 pub mod Faults
 pub mod Misreadings
 pub mod Operations
+pub mod Journalled
 pub mod Promises

@@ -9,8 +9,8 @@ use Rattle.programme.specs.Starts.{RunningStarts, ThreeWorked}
 use Rattle.calculus.specs.RuleNumbers.{RuleNumbers}
 use Rattle.calculus.specs.Faithful.{Faithfulness}
 use Rattle.calculus.specs.Exact.{Exactness, FaithfulnessByRules}
-use Rattle.calculus.specs.Ladder.{Ladder, Descent, Further, OwnRefusals, Budgets}
-use Rattle.calculus.specs.Isolation.{FullRules, Isolation, IsolationDownToFloors}
+use Rattle.calculus.specs.Ladder.{Ladder, Descent, Further, OwnRefusals, Budgets, Journals}
+use Rattle.calculus.specs.Isolation.{FullRules, Isolation, IsolationDownToFloors, ProtectedTested, ProtectedEntriesAgree}
 use Rattle.calculus.specs.Kept.{StepByStep, CapabilitySafety, WriteIntegrity}
 use Rattle.calculus.specs.Steps.{WhileLaw, StepsBounded}
 use Rattle.calculus.specs.Deputy.{ProvenanceSafety, ProvenanceSafetyDownToFloors, CapabilityDeputySafety, DeputySafety, DeputySafetyDownToFloors, FullDeputySafety, FullDeputySafetyDownToFloors, NoninterferenceSuffices, IsolationSuffices, IsolationSufficesDownToFloors}
@@ -23,12 +23,14 @@ use Rattle.calculus.specs.Descents.{DescentsHold}
 use Rattle.calculus.specs.Faults.{FaultsHold}
 use Rattle.calculus.specs.Misreadings.{MisreadingsHold}
 use Rattle.calculus.specs.Operations.{OperationsHold}
+use Rattle.calculus.specs.Written.{JournalTells}
+use Rattle.calculus.specs.Journalled.{JournalsHold}
 use Rattle.calculus.specs.Floors.{JudgedByMeet, FloorsIgnored, FloorsHold}
 
 pub record Promises : Type 0 where
   -- Demand 1, "The table is good when ..": the tests of a table say that it is a partial order with meets and a top
   pub good-tables : GoodTables
-  -- Demand 2: a call's run is exactly what the rules of the calculus come to within its budget, as every run under a budget is; what the functions
+  -- Demand 2: a call's run is exactly what the rules of the calculus come to within its limits, as every run within limits is; what the functions
   -- that compute it say; a while is its own unrolling; steps grow up to the budget; P1 to P12, the order of refusals in a step, and what is
   -- easily misread
   pub faithfulness-by-rules : FaithfulnessByRules
@@ -90,3 +92,11 @@ pub record Promises : Type 0 where
   pub judged-by-meet : JudgedByMeet
   pub floors-ignored : FloorsIgnored
   pub floors-hold : FloorsHold
+  -- Document 02, N7: the writing journal. What a finished run's entries and counts tell: totals, walks both ways, and who wrote each. A longer
+  -- journal alters no run but one that was refused for want of an entry. Of two runs as in demand 3, the entries that name protected slots are the
+  -- same list. Worked examples
+  pub journal-tells : JournalTells
+  pub journals : Journals
+  pub protected-entries-agree : ProtectedEntriesAgree
+  pub protected-tested : ProtectedTested
+  pub journals-hold : JournalsHold

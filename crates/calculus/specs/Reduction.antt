@@ -1,7 +1,8 @@
 -- The calculus as rules, with neither budget nor fuel: source 003, figures 2 to 4, with document 01's changes; figure 1 is programme's Syntax.antt.
 -- A rule of the source's has its name there, less the prefix (A, C, EP, FP; X for A and C); `Operate`, `Guard`, `Seq`, `End`, `Start` and
 -- `Prg-1-silent` are ours. Labels and the stack go along under every rule set: figure 2 has neither, figure 3 no stack. Where the source comes to
--- skip, what stands behind it is left; `done` is a block's last skip. H(r) is `contents`, H[r ↦ v] is `written`. Assumes nothing.
+-- skip, what stands behind it is left; `done` is a block's last skip. H(r) is `contents`; H[r ↦ v] is `recorded`, since the journal goes along with the
+-- store (document 02, N7). Assumes nothing.
 use Prim.Native.Nat.{ℕ, _+_}
 use mathlib.Core.Path.{_≡_}
 use mathlib.Core.Bool.{Bool, true, false}
@@ -14,15 +15,16 @@ use Rattle.programme.specs.declared.Header.{Header}
 use Rattle.programme.specs.Syntax.{Op, Expr, literal, read, operation, Cmd, cmd, skip, assign, seq, if, while, Cmds, nil, cons}
 use Rattle.programme.specs.Sheet.{Block}
 use Rattle.calculus.specs.Rules.{RuleSet, accessControl, capability, explicitProvenance, fullProvenance}
-use Rattle.calculus.specs.Calculus.{Store, contents, takes, gives, written}
+use Rattle.calculus.specs.Calculus.{Store, contents, takes, gives, Memory, recorded}
 
 infix 10 _⊢⟨_∣_⟩⇓_^_ _⊢⟨_∣_⟩⇓if_^_ _⊢_⇝_ _⊢_⟶_ _⊩_⟹_
 infixr 30 _⨾_ end⨾_ _⨾⨾_
--- A region ρ, which a block's header gives, and what its rules look up: the lattice, the owners O(r), the rule set
+-- A region ρ, which a block's header gives, and what its rules look up: the lattice, the owners O(r), the rule set; and the block's number
 pub record Region : Type 0 where
   pub tables : Tables
   pub rules : RuleSet
   pub header : Header
+  pub block : ℕ
 
 -- ℓ ≥ x, "at or above"; and ρ ≥ O(r), "the region must be at or above the slot's owner"
 abbrev pub Above : Region → Label → Label → Type 0
@@ -86,53 +88,54 @@ unfoldable pub _⨾⨾_ : Cmds → Code → Code
 nil ⨾⨾ k = k
 cons c cs ⨾⨾ k = c ⨾ cs ⨾⨾ k
 
--- Commands, ⟨H, PC, c⟩ ⟶ ⟨H′, PC′, c′⟩: the store, the stack of branch labels, the present one first, and the code
+-- Commands, ⟨H, PC, c⟩ ⟶ ⟨H′, PC′, c′⟩: the store with the journal, the stack of branch labels, the present one first, and
+-- the code
 pub data Config : Type 0 where
-  ⟨_∣_∣_⟩ : Store → List Label → Code → Config
+  ⟨_∣_∣_⟩ : Memory → List Label → Code → Config
 
 -- Silent: "A step is one guard judged or one assignment made; nothing else counts."
 pub data _⊢_⇝_ (ρ : Region) : Config → Config → Type 0 where
   -- "22 sequence, a count byte 2 to 255, then that many commands": the source's c; c has two parts. Then "20 skip"
-  Seq : {H : Store} {PC : List Label} {at : ℕ} {cs : Cmds} {k : Code} → ρ ⊢ ⟨ H ∣ PC ∣ cmd at (seq cs) ⨾ k ⟩ ⇝ ⟨ H ∣ PC ∣ cs ⨾⨾ k ⟩
-  Seq-2 : {H : Store} {PC : List Label} {at : ℕ} {k : Code} → ρ ⊢ ⟨ H ∣ PC ∣ cmd at skip ⨾ k ⟩ ⇝ ⟨ H ∣ PC ∣ k ⟩
+  Seq : {H : Memory} {PC : List Label} {at : ℕ} {cs : Cmds} {k : Code} → ρ ⊢ ⟨ H ∣ PC ∣ cmd at (seq cs) ⨾ k ⟩ ⇝ ⟨ H ∣ PC ∣ cs ⨾⨾ k ⟩
+  Seq-2 : {H : Memory} {PC : List Label} {at : ℕ} {k : Code} → ρ ⊢ ⟨ H ∣ PC ∣ cmd at skip ⨾ k ⟩ ⇝ ⟨ H ∣ PC ∣ k ⟩
   -- FP-endif and FP-endwhile: "after the part, or after each round before judging again, the outer one is back"
-  End : {H : Store} {pc : Label} {PC : List Label} {k : Code} → ρ ⊢ ⟨ H ∣ pc ∷ PC ∣ end⨾ k ⟩ ⇝ ⟨ H ∣ PC ∣ k ⟩
+  End : {H : Memory} {pc : Label} {PC : List Label} {k : Code} → ρ ⊢ ⟨ H ∣ pc ∷ PC ∣ end⨾ k ⟩ ⇝ ⟨ H ∣ PC ∣ k ⟩
 
 -- Counted. "Inside an if-part or a while body it is the meet of the outer one and the guard's label": pc ⊓ ℓ is pushed
 pub data _⊢_⟶_ (ρ : Region) : Config → Config → Type 0 where
-  If : {H : Store} {pc l : Label} {PC : List Label} {at : ℕ} {g : Expr} {c d : Cmd} {k : Code}
-      → ρ ⊢⟨ H ∣ g ⟩⇓if true ^ l → ρ ⊢ ⟨ H ∣ pc ∷ PC ∣ cmd at (if g c d) ⨾ k ⟩ ⟶ ⟨ H ∣ meet (ρ .tables .order) pc l ∷ pc ∷ PC ∣ c ⨾ end⨾ k ⟩
-  Else : {H : Store} {pc l : Label} {PC : List Label} {at : ℕ} {g : Expr} {c d : Cmd} {k : Code}
-      → ρ ⊢⟨ H ∣ g ⟩⇓if false ^ l → ρ ⊢ ⟨ H ∣ pc ∷ PC ∣ cmd at (if g c d) ⨾ k ⟩ ⟶ ⟨ H ∣ meet (ρ .tables .order) pc l ∷ pc ∷ PC ∣ d ⨾ end⨾ k ⟩
+  If : {H : Memory} {pc l : Label} {PC : List Label} {at : ℕ} {g : Expr} {c d : Cmd} {k : Code}
+      → ρ ⊢⟨ H .store ∣ g ⟩⇓if true ^ l → ρ ⊢ ⟨ H ∣ pc ∷ PC ∣ cmd at (if g c d) ⨾ k ⟩ ⟶ ⟨ H ∣ meet (ρ .tables .order) pc l ∷ pc ∷ PC ∣ c ⨾ end⨾ k ⟩
+  Else : {H : Memory} {pc l : Label} {PC : List Label} {at : ℕ} {g : Expr} {c d : Cmd} {k : Code}
+      → ρ ⊢⟨ H .store ∣ g ⟩⇓if false ^ l → ρ ⊢ ⟨ H ∣ pc ∷ PC ∣ cmd at (if g c d) ⨾ k ⟩ ⟶ ⟨ H ∣ meet (ρ .tables .order) pc l ∷ pc ∷ PC ∣ d ⨾ end⨾ k ⟩
   -- "A while whose guard is true runs its body and judges again."; one whose guard is false is over, under the labels that it had
-  While-1 : {H : Store} {pc l : Label} {PC : List Label} {at : ℕ} {g : Expr} {c : Cmd} {k : Code}
-      → ρ ⊢⟨ H ∣ g ⟩⇓if true ^ l
+  While-1 : {H : Memory} {pc l : Label} {PC : List Label} {at : ℕ} {g : Expr} {c : Cmd} {k : Code}
+      → ρ ⊢⟨ H .store ∣ g ⟩⇓if true ^ l
       → ρ ⊢ ⟨ H ∣ pc ∷ PC ∣ cmd at (while g c) ⨾ k ⟩ ⟶ ⟨ H ∣ meet (ρ .tables .order) pc l ∷ pc ∷ PC ∣ c ⨾ end⨾ cmd at (while g c) ⨾ k ⟩
-  While-2 : {H : Store} {pc l : Label} {PC : List Label} {at : ℕ} {g : Expr} {c : Cmd} {k : Code}
-      → ρ ⊢⟨ H ∣ g ⟩⇓if false ^ l → ρ ⊢ ⟨ H ∣ pc ∷ PC ∣ cmd at (while g c) ⨾ k ⟩ ⟶ ⟨ H ∣ pc ∷ PC ∣ k ⟩
+  While-2 : {H : Memory} {pc l : Label} {PC : List Label} {at : ℕ} {g : Expr} {c : Cmd} {k : Code}
+      → ρ ⊢⟨ H .store ∣ g ⟩⇓if false ^ l → ρ ⊢ ⟨ H ∣ pc ∷ PC ∣ cmd at (while g c) ⨾ k ⟩ ⟶ ⟨ H ∣ pc ∷ PC ∣ k ⟩
   -- "target evaluated first, must be a write view, then the value"; the label of the value is not stored: "Labels are not kept in slots."
-  Assign : {H : Store} {pc l l′ : Label} {PC : List Label} {at : ℕ} {x y : Expr} {k : Code} {view v : Value}
-      → ρ ⊢⟨ H ∣ x ⟩⇓ view ^ l → isWriteView view ≡ true → ρ ⊢⟨ H ∣ y ⟩⇓ v ^ l′
+  Assign : {H : Memory} {pc l l′ : Label} {PC : List Label} {at : ℕ} {x y : Expr} {k : Code} {view v : Value}
+      → ρ ⊢⟨ H .store ∣ x ⟩⇓ view ^ l → isWriteView view ≡ true → ρ ⊢⟨ H .store ∣ y ⟩⇓ v ^ l′
       → asks ρ .slot (viewed view) → asks ρ .labels (viewed view) l l′ pc
-      → ρ ⊢ ⟨ H ∣ pc ∷ PC ∣ cmd at (assign x y) ⨾ k ⟩ ⟶ ⟨ written (record { slot = viewed view; value = v }) H ∣ pc ∷ PC ∣ k ⟩
+      → ρ ⊢ ⟨ H ∣ pc ∷ PC ∣ cmd at (assign x y) ⨾ k ⟩ ⟶ ⟨ recorded (ρ .block) at (record { slot = viewed view; value = v }) H ∣ pc ∷ PC ∣ k ⟩
 
 -- Programmes, ρ{c} ∘ P: "Blocks run in order.", over one lattice, one map of owners and under one rule set
-abbrev pub regions : Tables → RuleSet → Header → Region
-regions w rules h = record { tables = w; rules = rules; header = h }
+abbrev pub regions : Tables → RuleSet → ℕ → Header → Region
+regions w rules i h = record { tables = w; rules = rules; header = h; block = i }
 
 -- A stage of a run has the number of its block and the steps done: before that block, the store and the blocks from it on; during it, its
 -- header, where it stands, and the blocks after it. Below ρ is `regions w rules`.
 pub data Stage : Type 0 where
-  before : ℕ → ℕ → Store → List Block → Stage
+  before : ℕ → ℕ → Memory → List Block → Stage
   during : ℕ → ℕ → Header → Config → List Block → Stage
 
-pub data _⊩_⟹_ (ρ : Header → Region) : Stage → Stage → Type 0 where
+pub data _⊩_⟹_ (ρ : ℕ → Header → Region) : Stage → Stage → Type 0 where
   -- the branch label "is top at a block's start"; the source starts a programme under [⊤]
-  Start : {i n : ℕ} {H : Store} {b : Block} {bs : List Block}
-      → ρ ⊩ before i n H (b ∷ bs) ⟹ during i n (b .header) ⟨ H ∣ top (ρ (b .header) .tables .order) ∷ [] ∣ b .command ⨾ done ⟩ bs
+  Start : {i n : ℕ} {H : Memory} {b : Block} {bs : List Block}
+      → ρ ⊩ before i n H (b ∷ bs) ⟹ during i n (b .header) ⟨ H ∣ top (ρ i (b .header) .tables .order) ∷ [] ∣ b .command ⨾ done ⟩ bs
   -- X-Prg 1 and X-Comp 1, silent and counted
-  Prg-1-silent : {i n : ℕ} {h : Header} {C D : Config} {bs : List Block} → ρ h ⊢ C ⇝ D → ρ ⊩ during i n h C bs ⟹ during i n h D bs
-  Prg-1 : {i n : ℕ} {h : Header} {C D : Config} {bs : List Block} → ρ h ⊢ C ⟶ D → ρ ⊩ during i n h C bs ⟹ during i (n + 1) h D bs
+  Prg-1-silent : {i n : ℕ} {h : Header} {C D : Config} {bs : List Block} → ρ i h ⊢ C ⇝ D → ρ ⊩ during i n h C bs ⟹ during i n h D bs
+  Prg-1 : {i n : ℕ} {h : Header} {C D : Config} {bs : List Block} → ρ i h ⊢ C ⟶ D → ρ ⊩ during i n h C bs ⟹ during i (n + 1) h D bs
   -- FP-Comp 2. The source ends at the last block's ρ{skip}; here that block is left too, and a run is finished before a block that is not there
-  Comp-2 : {i n : ℕ} {h : Header} {H : Store} {PC : List Label} {bs : List Block} → PC ≡ top (ρ h .tables .order) ∷ []
+  Comp-2 : {i n : ℕ} {h : Header} {H : Memory} {PC : List Label} {bs : List Block} → PC ≡ top (ρ i h .tables .order) ∷ []
       → ρ ⊩ during i n h ⟨ H ∣ PC ∣ done ⟩ bs ⟹ before (i + 1) n H bs

@@ -8,7 +8,7 @@ use Rattle.store.specs.Sheet.{Tables}
 use Rattle.programme.specs.Syntax.{Expr, Cmd, cmd, while}
 use Rattle.programme.specs.Sheet.{Block}
 use Rattle.calculus.specs.Rules.{RuleSet}
-use Rattle.calculus.specs.Calculus.{Setting, State, Stop, counted, step, judge, choose, exec}
+use Rattle.calculus.specs.Calculus.{Limits, Setting, State, Stop, counted, step, judge, choose, exec}
 use Rattle.calculus.specs.Blocks.{runBlocks}
 use Rattle.calculus.specs.Kept.{reached}
 
@@ -21,11 +21,11 @@ once w g c at branch k s =
 -- A while is one round of it, and then the same command again: the fuel of `loop` is not seen.
 abbrev pub WhileLaw : Type 0
 WhileLaw =
-    (w : Setting) (g : Expr) (c : Cmd) (at : ℕ) (branch : Label) (s : State) → s .steps ≤ w .budget
+    (w : Setting) (g : Expr) (c : Cmd) (at : ℕ) (branch : Label) (s : State) → s .steps ≤ w .limits .budget
     → exec w (cmd at (while g c)) branch s ≡ once w g c at branch (exec w (cmd at (while g c)) branch) s
 
 -- Steps only grow and never pass the budget, in a run of blocks that ends and in one that is stopped.
 abbrev pub StepsBounded : Type 0
 StepsBounded =
-    (w : Tables) (rules : RuleSet) (budget i : ℕ) (bs : List Block) (s : State) → s .steps ≤ budget
-    → (s .steps ≤ reached (runBlocks w rules budget i bs s) .steps) × (reached (runBlocks w rules budget i bs s) .steps ≤ budget)
+    (w : Tables) (rules : RuleSet) (l : Limits) (i : ℕ) (bs : List Block) (s : State) → s .steps ≤ l .budget
+    → (s .steps ≤ reached (runBlocks w rules l i bs s) .steps) × (reached (runBlocks w rules l i bs s) .steps ≤ l .budget)

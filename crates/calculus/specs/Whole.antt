@@ -12,7 +12,7 @@ use Rattle.store.specs.Sheet.{Tables, tablesOf, openingOf, storeSheet}
 use Rattle.programme.specs.Sheet.{headerAt}
 use Rattle.calculus.specs.Calculus.{Store}
 use Rattle.calculus.specs.Run.{FinishedRun}
-use Rattle.calculus.specs.Vectors.{int, bool, writes, assign, lit, read, block, floored, sheetOf}
+use Rattle.calculus.specs.Vectors.{int, bool, writes, wrote, kept, assign, lit, read, block, floored, sheetOf}
 use Rattle.calculus.specs.Isolation.{Protected, withinReach, FloorsOutOfReach, Replacement}
 use Rattle.calculus.specs.Deputy.{ProtectedSpare, BareBlocksSpare, Prevents}
 
@@ -51,10 +51,10 @@ sent x = sheetOf (block 0 (chooses x) ∷ floored 0x81 1 stores ∷ block 1 obey
 
 -- what the runs end with where the adversary sends true and where it sends false
 abbrev pub left : List ℕ
-left = bool 1 ++ int 41 ++ writes 1
+left = wrote 1 (bool 1) ++ wrote 1 (int 41) ++ wrote 1 (writes 1)
 
 abbrev pub right : List ℕ
-right = bool 0 ++ int 42 ++ writes 1
+right = wrote 1 (bool 0) ++ wrote 1 (int 42) ++ wrote 1 (writes 1)
 
 -- Theorem 5's conditions hold but that block 1, outside the adversary's reach, is endorsed, and its floor is out of reach. Slot 1, protected, opens with
 -- 7 and ends with 41 or with 42, as the adversary chose.
@@ -68,6 +68,6 @@ pub record WholeWorked : Type 0 where
   pub endorsed : headerAt (sent 1) 1 .endorsed ≡ true
   pub floors : FloorsOutOfReach tables 0 (sent 1)
   pub other : Replacement tables 0 (sent 1) (sent 0)
-  pub seven : slotBytes (getD slots 1 emptySlot) ≡ int 7
+  pub seven : slotBytes (getD slots 1 emptySlot) ≡ kept (int 7)
   pub left-run : FinishedRun 2 sheet (sent 1) left
   pub right-run : FinishedRun 2 sheet (sent 0) right

@@ -1,10 +1,13 @@
-// Calls for C and Rust: numbers and byte slices only. A `&[u8]` is passed as a pointer and a length.
+// Calls for C and Rust. A slice, of bytes or of a journal's entries, is passed as a pointer and a length: how many of them there are. An answer is
+// returned as a struct.
 ghost use mathlib.Core.Path.{_≡_};
 ghost use Rattle.store.specs.Sheet.{storeSheet, tableSheet};
 ghost use Rattle.store.specs.Held.{refusalOf};
 ghost use Rattle.programme.specs.Sheet.{programmeSheet, checkAnswer};
-ghost use Rattle.store.specs.Result.{says};
-ghost use Rattle.calculus.specs.Run.{call, answer, output};
+ghost use lib.ListN.{length};
+ghost use Rattle.calculus.specs.Run.{call, answer, output, journal as journalAfter};
+use store::Answer;
+use store::Entry;
 
 // The refusal of a store sheet, 1 to 5, or 0.
 #[no_mangle]
@@ -41,7 +44,8 @@ pub extern "C" fn muntyzhap_check_programme(
     a.number
 }
 
-// One run: its number, block, offset and steps, and its output.
+// One run of both sheets under a rule's number and a budget. It takes an output, `Opened::SLOT_WIDTH` bytes for each slot, and a journal of any
+// length, 0 too, an entry for each write. It answers how the run ended; a refused one leaves output and journal as they were.
 #[no_mangle]
 pub extern "C" fn muntyzhap_run(
     store: &[u8],
@@ -49,21 +53,13 @@ pub extern "C" fn muntyzhap_run(
     rule: u32,
     budget: u32,
     out: &mut [u8],
-    block: &mut usize,
-    offset: &mut usize,
-    steps: &mut u32,
-) -> u32
+    journal: &mut [Entry],
+) -> Answer
     ensures { λ r. ⌜
-        says r (now (block .exit)) (now (offset .exit)) (now (steps .exit))
-        ≡ answer (call (now (store .entry)) (now (programme .entry)) rule budget (now (out .entry)))
-        ⌝ }
-    ensures { λ r. ⌜
-        now (out .exit) ≡ output (call (now (store .entry)) (now (programme .entry)) rule budget (now (out .entry))) (now (out .entry))
+        (r ≡ answer (call (now (store .entry)) (now (programme .entry)) rule budget (length (now (out .entry))) (length (now (journal .entry)))))
+        × (now (out .exit) ≡ output (call (now (store .entry)) (now (programme .entry)) rule budget (length (now (out .entry))) (length (now (journal .entry)))) (now (out .entry)))
+        × (now (journal .exit) ≡ journalAfter (call (now (store .entry)) (now (programme .entry)) rule budget (length (now (out .entry))) (length (now (journal .entry)))) (now (journal .entry)))
         ⌝ }
 {
-    let a = runner::run(store, programme, rule, budget, out);
-    *block = a.block;
-    *offset = a.offset;
-    *steps = a.steps;
-    a.number
+    runner::run(store, programme, rule, budget, out, journal)
 }

@@ -3,6 +3,7 @@ use Prim.Native.Nat.{ℕ, suc, _+_, _-_, _*_, _≤_, _<_}
 use mathlib.Core.Path.{_≡_, refl, ap, _∙_}
 use mathlib.Core.Bool.{true, false}
 use mathlib.Core.List.{List, [], _++_}
+use native.Mathlib.Numerals.{add-one}
 use native.Mathlib.Omega.{arith}
 use lib.ListN.{length}
 use lib.Seq.{length-sets}
@@ -11,13 +12,14 @@ use Rattle.store.specs.declared.Answer.{Answer}
 use Rattle.store.specs.declared.Value.{Value}
 use Rattle.store.specs.Value.{slotWidth, valueAt}
 use Rattle.store.specs.Signed.{negative, magnitude}
-use Rattle.store.specs.Sheet.{ownerAt}
+use Rattle.store.specs.Sheet.{ownerAt, orderOf}
 use Rattle.printing.specs.Decimal.{ascii}
-use Rattle.printing.specs.Lines.{field, lineEnd, answerFields, answerLine, payloadField, slotLine, slotLines, lines}
-use Rattle.printing.specs.Put.{Put, fieldRoom, fieldsRoom, answerRoom, slotRoom}
+use Rattle.printing.specs.Above.{numberAbove}
+use Rattle.printing.specs.Lines.{field, lineEnd, answerFields, answerLine, payloadField, slotLine, countOf, slotLines, totalOf, totalLine, lines}
+use Rattle.printing.specs.Put.{Put, fieldRoom, fieldsRoom, answerRoom, slotRoom, totalRoom}
 use Rattle.printing.proofs.Put.{put-none, put-then, put-as}
 
--- four fields; and, of a slot's line, its end
+-- the fields of line 1; the fields and the end of a slot's line, and of the last line
 module _ {t t₁ t₂ t₃ t₄ : List ℕ} {at e₁ e₂ e₃ e₄ : ℕ} where
   pub fields-put : (a : Answer)
       → Put t at (field (ascii "end ") (a .number)) (fieldRoom 4) e₁ t₁
@@ -28,15 +30,22 @@ module _ {t t₁ t₂ t₃ t₄ : List ℕ} {at e₁ e₂ e₃ e₄ : ℕ} where
   unfolding answerFields
   fields-put a p q r s = put-then (put-then (put-then p q) r) s
 
-  pub slot-puts : {t₅ : List ℕ} {e₅ : ℕ} (slot owner : ℕ) (v : Value)
+  pub slot-puts : {t₅ t₆ t₇ : List ℕ} {e₅ e₆ e₇ : ℕ} (slot owner : ℕ) (v : Value) (writes above : ℕ)
       → Put t at (field [] slot) (fieldRoom 0) e₁ t₁
       → Put t₁ e₁ (field (ascii " ") owner) (fieldRoom 1) e₂ t₂
       → Put t₂ e₂ (field (ascii " ") (v .kind)) (fieldRoom 1) e₃ t₃
       → Put t₃ e₃ (payloadField v) (fieldRoom 2) e₄ t₄
-      → Put t₄ e₄ lineEnd 1 e₅ t₅
-      → Put t at (slotLine slot owner v) slotRoom e₅ t₅
+      → Put t₄ e₄ (field (ascii " ") writes) (fieldRoom 1) e₅ t₅
+      → Put t₅ e₅ (field (ascii " ") above) (fieldRoom 1) e₆ t₆
+      → Put t₆ e₆ lineEnd 1 e₇ t₇
+      → Put t at (slotLine slot owner v writes above) slotRoom e₇ t₇
   unfolding slotLine
-  slot-puts slot owner v p q r s l = put-then (put-then (put-then (put-then p q) r) s) l
+  slot-puts slot owner v writes above p q r s w x l = put-then (put-then (put-then (put-then (put-then (put-then p q) r) s) w) x) l
+
+pub total-put : {t t₁ t₂ : List ℕ} {at e₁ e₂ : ℕ} (out : List ℕ) (m : ℕ) {total : ℕ} → total ≡ totalOf out m
+    → Put t at (field [] total) (fieldRoom 0) e₁ t₁ → Put t₁ e₁ lineEnd 1 e₂ t₂ → Put t at (totalLine out m) totalRoom e₂ t₂
+unfolding totalLine
+total-put out m h p l = put-then (rw h at p) l
 
 pub answer-put : {t t₁ t₂ : List ℕ} {at e₁ e₂ : ℕ} (a : Answer)
     → Put t at (answerFields a) fieldsRoom e₁ t₁ → Put t₁ e₁ lineEnd 1 e₂ t₂ → Put t at (answerLine a) answerRoom e₂ t₂
@@ -57,12 +66,21 @@ module _ (a : Answer) (sheet : List ℕ) (m : ℕ) (out : List ℕ) where
   unfolding lines
   refused h = rw (lines, ne-eqb (a .number) 0 h)
 
-  pub finished : a .number ≡ 0 → answerLine a ++ slotLines sheet out 0 m ≡ lines a sheet m out
+  pub finished : a .number ≡ 0 → answerLine a ++ slotLines sheet out 0 m ++ totalLine out m ≡ lines a sheet m out
   unfolding lines
   finished h = rw (lines, eq-eqb (a .number) 0 h)
 
 pub same-lines : (sheet : List ℕ) (m : ℕ) {a a′ : Answer} {out out′ : List ℕ} → a ≡ a′ → out ≡ out′ → lines a sheet m out ≡ lines a′ sheet m out′
 same-lines sheet m p q = rw (p, q) refl
+
+-- the loop that sums the counts: its start and its step
+pub total-none : (out : List ℕ) → 0 ≡ totalOf out 0
+unfolding totalOf
+total-none out = refl
+
+pub total-step : (out : List ℕ) (i : ℕ) {total count : ℕ} → total ≡ totalOf out i → count ≡ countOf out i → total + count ≡ totalOf out (i + 1)
+unfolding totalOf
+total-step out i p q = rw (p, q, add-one i) refl
 
 -- The loop over the slots stands before the i-th: the lines that are left, put from here, make up all of them.
 pub record Left (t₀ : List ℕ) (at : ℕ) (sheet out : List ℕ) (slots : ℕ) (t : List ℕ) (end i : ℕ) : Type 0 where
@@ -85,20 +103,22 @@ module _ (t₀ : List ℕ) (at : ℕ) (sheet out : List ℕ) (slots : ℕ) where
 
   module _ (t : List ℕ) (end i : ℕ) (left : Left t₀ at sheet out slots t end i) where
     next : i < slots
-        → slotLine i (ownerAt sheet i) (valueAt out (slotWidth * i)) ++ slotLines sheet out (i + 1) (slots - (i + 1))
+        → slotLine i (ownerAt sheet i) (valueAt out (slotWidth * i)) (countOf out i) (numberAbove (orderOf sheet) (ownerAt sheet i))
+        ++ slotLines sheet out (i + 1) (slots - (i + 1))
         ≡ slotLines sheet out i (slots - i)
     unfolding slotLines
     next h = let e : slots - i ≡ suc (slots - (i + 1)) = omega arith in rw e refl
 
-    pub left-next : (owner : ℕ) (v : Value) {end′ : ℕ} {t′ : List ℕ} → i < slots → owner ≡ ownerAt sheet i → v ≡ valueAt out (slotWidth * i)
-        → Put t end (slotLine i owner v) slotRoom end′ t′ → Left t₀ at sheet out slots t′ end′ (i + 1)
-    left-next owner v {end′} {t′} h p q put =
-        let same : length t′ ≡ length t = ap length (put .holds) ∙ length-sets t end (slotLine i owner v) in
+    pub left-next : (owner : ℕ) (v : Value) (writes above : ℕ) {end′ : ℕ} {t′ : List ℕ} → i < slots
+        → owner ≡ ownerAt sheet i → v ≡ valueAt out (slotWidth * i) → writes ≡ countOf out i → above ≡ numberAbove (orderOf sheet) owner
+        → Put t end (slotLine i owner v writes above) slotRoom end′ t′ → Left t₀ at sheet out slots t′ end′ (i + 1)
+    left-next owner v writes above {end′} {t′} h p q w x put =
+        let same : length t′ ≡ length t = ap length (put .holds) ∙ length-sets t end (slotLine i owner v writes above) in
         record {
           done = omega arith;
           same = same ∙ left .same;
           room = omega (arith, put .within, left .room, same);
-          rest = λ e t″ last. left .rest e t″ (put-as (slotRoom * (slots - i)) (next h) (omega arith) (put-then (rw (p, q) at put) last));
+          rest = λ e t″ last. left .rest e t″ (put-as (slotRoom * (slots - i)) (next h) (omega arith) (put-then (rw (x, p, q, w) at put) last));
         }
 
     none : slots ≤ i → [] ≡ slotLines sheet out i (slots - i)

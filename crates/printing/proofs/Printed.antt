@@ -15,8 +15,8 @@ use Rattle.store.specs.Value.{slotWidth}
 use Rattle.store.specs.Sheet.{mostSlots}
 use Rattle.calculus.specs.Run.{call}
 use Rattle.printing.specs.Decimal.{ascii}
-use Rattle.printing.specs.Lines.{field, answerFields, answerLine, slotLines, lines}
-use Rattle.printing.specs.Printed.{mostInput, budgetWidth, headWidth, storeLength, slotsOf, lent, callLines, printedRun, printedSheets, printedRead, printed}
+use Rattle.printing.specs.Lines.{field, answerFields, answerLine, slotLines, totalLine, lines}
+use Rattle.printing.specs.Printed.{mostInput, budgetWidth, headWidth, storeLength, slotsOf, lent, mostEntries, callLines, printedRun, printedSheets, printedRead, printed}
 
 take-replicate : (n k : ℕ) → n ≤ k → take {A = ℕ} n (replicate k 0) ≡ replicate n 0
 take-replicate n k h =
@@ -38,9 +38,9 @@ unfolding lent
 length-lent m = length-replicate (slotWidth * m) 0
 
 pub run-lines : (rule budget : ℕ) (store programme old : List ℕ) (slots : ℕ) → slots ≡ slotsOf store → old ≡ lent slots
-    → callLines (call store programme rule budget old) slots old ≡ printedRun rule budget store programme
+    → callLines (call store programme rule budget (length old) mostEntries) slots old ≡ printedRun rule budget store programme
 unfolding printedRun
-run-lines rule budget store programme old slots p q = rw (q, p) refl
+run-lines rule budget store programme old slots p q = rw (q, length-lent slots, p) refl
 
 pub cut-sheets : (rule budget : ℕ) (s programme : List ℕ) (cut : ℕ) → cut ≡ storeLength s → programme ≡ drop cut s
     → printedRun rule budget (take cut s) programme ≡ printedSheets rule budget s
@@ -76,7 +76,7 @@ unfolding lines answerLine answerFields field
 starts-lines a sheet m out = either (eqb (a .number) 0)
   where
     either : (b : Bool)
-        → take 4 (elim b [ true ↦ answerLine a ++ slotLines sheet out 0 m | false ↦ answerLine a ]) ≡ ascii "end "
+        → take 4 (elim b [ true ↦ answerLine a ++ slotLines sheet out 0 m ++ totalLine out m | false ↦ answerLine a ]) ≡ ascii "end "
     either true = refl
     either false = refl
 

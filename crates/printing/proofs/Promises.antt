@@ -2,7 +2,7 @@
 use Rattle.printing.specs.Promises.{Promises}
 use Rattle.printing.proofs.Decimal.{decimal-text}
 use Rattle.printing.proofs.Printed.{first-word, bytes-read}
-use Rattle.printing.proofs.Examples.{inputs-hold, values-hold}
+use Rattle.printing.proofs.Examples.{inputs-hold, ends-hold, values-hold}
 
 pub promises : Promises
 promises =
@@ -11,5 +11,6 @@ promises =
       first-word = first-word;
       bytes-read = bytes-read;
       inputs-hold = inputs-hold;
+      ends-hold = ends-hold;
       values-hold = values-hold;
     }

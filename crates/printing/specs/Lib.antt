@@ -1,4 +1,5 @@
 pub mod Decimal
+pub mod Above
 pub mod Lines
 pub mod Printed
 pub mod Put

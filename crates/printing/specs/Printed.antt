@@ -1,4 +1,4 @@
--- Document 01, "The printing program": what is printed, for every standard input. Assumes nothing.
+-- Document 01, "The printing program", with document 02, N7: what is printed, for every standard input. Assumes nothing.
 use Prim.Native.Nat.{ℕ, _+_, _*_, min}
 use mathlib.Core.Bool.{true, false}
 use mathlib.Core.List.{List}
@@ -35,6 +35,10 @@ slotsOf s = elim (leb (mOf s) mostSlots) [ true ↦ mOf s | false ↦ 0 ]
 unfoldable pub lent : ℕ → List ℕ
 lent m = replicate (slotWidth * m) 0
 
+-- "The printing program lends 512 entries" (document 02, N7)
+abbrev pub mostEntries : ℕ
+mostEntries = 512
+
 -- the lines of a call whose output held `old`, with so many slots
 abbrev pub callLines : Call → ℕ → List ℕ → List ℕ
 callLines c slots old = lines (answer c) (c .store) slots (output c old)
@@ -42,7 +46,7 @@ callLines c slots old = lines (answer c) (c .store) slots (output c old)
 -- the lines of a run of both sheets
 unfoldable pub printedRun : ℕ → ℕ → List ℕ → List ℕ → List ℕ
 printedRun rule budget store programme =
-    callLines (call store programme rule budget (lent (slotsOf store))) (slotsOf store) (lent (slotsOf store))
+    callLines (call store programme rule budget (slotWidth * slotsOf store) mostEntries) (slotsOf store) (lent (slotsOf store))
 
 -- the bytes after the rule and the budget are both sheets
 unfoldable pub printedSheets : ℕ → ℕ → List ℕ → List ℕ

@@ -6,7 +6,7 @@ use mathlib.Core.List.{List}
 use lib.ListN.{take}
 use Rattle.printing.specs.Decimal.{ascii, DecimalText}
 use Rattle.printing.specs.Printed.{mostInput, printed}
-use Rattle.printing.specs.Examples.{InputsHold, ValuesHold}
+use Rattle.printing.specs.Examples.{InputsHold, EndsHold, ValuesHold}
 
 pub record Promises : Type 0 where
   -- "Fields are decimal"
@@ -15,6 +15,7 @@ pub record Promises : Type 0 where
   pub first-word : (input : List ℕ) → take 4 (printed input) ≡ ascii "end "
   -- "It reads at most 32,768 bytes": what stands behind them is not printed
   pub bytes-read : (input : List ℕ) → printed (take mostInput input) ≡ printed input
-  -- document 01's example, refusals, and payloads
+  -- document 01's example with document 02's fields, unrelated principals, no slot, refusals; and payloads
   pub inputs-hold : InputsHold
+  pub ends-hold : EndsHold
   pub values-hold : ValuesHold

@@ -19,7 +19,7 @@ pub record Begins (old bytes : List ℕ) (size : ℕ) (new : List ℕ) : Type 0 
   pub holds : new ≡ bytes ++ drop size old
   pub fits : size ≤ length new
 
--- the most bytes of a field, after a word of so many bytes; of line 1's fields; of line 1; of a slot's line; of a text
+-- the most bytes of a field, after a word of so many bytes; of line 1's fields; of line 1; of a slot's line; of the last line; of a text
 abbrev pub fieldRoom : ℕ → ℕ
 fieldRoom word = word + mostPlaces
 
@@ -30,7 +30,10 @@ abbrev pub answerRoom : ℕ
 answerRoom = fieldsRoom + 1
 
 abbrev pub slotRoom : ℕ
-slotRoom = fieldRoom 0 + fieldRoom 1 + fieldRoom 1 + fieldRoom 2 + 1
+slotRoom = fieldRoom 0 + fieldRoom 1 + fieldRoom 1 + fieldRoom 2 + fieldRoom 1 + fieldRoom 1 + 1
+
+abbrev pub totalRoom : ℕ
+totalRoom = fieldRoom 0 + 1
 
 abbrev pub textRoom : ℕ
-textRoom = answerRoom + slotRoom * mostSlots
+textRoom = answerRoom + slotRoom * mostSlots + totalRoom

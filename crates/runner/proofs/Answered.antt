@@ -40,10 +40,10 @@ module _ (x : Made) where
   making-refused h = rw (ne-eqb (x .refusal) 0 h) refl
 
 module _ (x : Next) where
-  pub control-on : x .refusal ≡ 0 → control x ≡ Control.On (x .row) (x .steps)
+  pub control-on : x .refusal ≡ 0 → control x ≡ Control.On (x .row) (x .steps) (x .free)
   unfolding controlBy
   control-on h = rw (eq-eqb (x .refusal) 0 h) refl
 
-  pub control-stopped : (x .refusal ≡ 0 → ⊥) → control x ≡ Control.Stopped (x .refusal) (x .row) (x .steps)
+  pub control-stopped : (x .refusal ≡ 0 → ⊥) → control x ≡ Control.Stopped (x .refusal) (x .row) (x .steps) (x .free)
   unfolding controlBy
   control-stopped h = rw (ne-eqb (x .refusal) 0 h) refl

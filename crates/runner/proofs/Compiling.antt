@@ -16,7 +16,7 @@ use Rattle.programme.specs.declared.Operand.{Operand}
 use Rattle.programme.specs.Code.{mostDeep}
 use Rattle.programme.specs.Rows.{Compiled, jumpRow, endRow, operandsOf, cmdOperands, bodyOperands, allOperands, between, past, rowsOf, rowsBody, rowsAll, size, sizeBody, sizeAll, Shallow, ShallowBody, ShallowAll, mostRows}
 use Rattle.programme.proofs.Rows.{rows-length}
-use Rattle.calculus.specs.Calculus.{Setting, State, Stop, Write, judge, assignment, step, counted, performed, choose, exec, execBody, execs}
+use Rattle.calculus.specs.Calculus.{Setting, State, Stop, Write, judge, attempt, step, counted, recorded, performed, choose, exec, execBody, execs}
 use Rattle.calculus.proofs.Steps.{Counted, made}
 use Rattle.calculus.proofs.While.{while-law}
 use Rattle.runner.specs.Running.{SoundExpr, AssignAt, GuardAt, JumpAt, next, Runs, ends, assigns, guards, jumps, BlockAt}
@@ -26,13 +26,13 @@ abbrev met : Setting → Label → Label → Label
 met w = meet (w .tables .order)
 
 -- a step that is made was within the budget
-step-early : {A : Type 0} (w : Setting) (at : ℕ) (s : State) (r : Result ℕ A) (a : A) → s .steps ≤ w .budget → step w at s r ≡ ok a
-    → s .steps < w .budget
-step-early w at s r a h e = post-at (λ _. s .steps < w .budget) _ _ a (made w (s .steps) at s r (record { grown = omega arith; kept = h })) e
+step-early : {A : Type 0} (w : Setting) (at : ℕ) (s : State) (r : Result ℕ A) (a : A) → s .steps ≤ w .limits .budget → step w at s r ≡ ok a
+    → s .steps < w .limits .budget
+step-early w at s r a h e = post-at (λ _. s .steps < w .limits .budget) _ _ a (made w (s .steps) at s r (record { grown = omega arith; kept = h })) e
 
-ticked : (w : Setting) (y : Write) (s : State) → s .steps < w .budget → Counted (w .budget) (s .steps) (performed y s)
-unfolding performed counted
-ticked w y s h = record { grown = omega arith; kept = omega arith }
+ticked : (w : Setting) (at : ℕ) (y : Write) (s : State) → s .steps < w .limits .budget → Counted (w .limits .budget) (s .steps) (performed w at y s)
+unfolding performed recorded counted
+ticked w at y s h = record { grown = omega arith; kept = omega arith }
 
 -- binds stay shut below, so that `_` can be found
 ok-bind : {E A B : Type 0} (a : A) (k : A → Result E B) → (ok a >>= k) ≡ k a
@@ -60,11 +60,11 @@ module _ (w : Setting) (t : Compiled) (last : ℕ) where
   -- running on from row r, inside d guards, from any state that can come up, comes to k
   abbrev Reaches : ℕ → ℕ → List Label → State → (State → Result Stop State) → Type 0
   Reaches r d l s k =
-      (u : State) (m : List Label) → Counted (w .budget) (s .steps) u → Same d l m → Runs w t last r m u (k u)
+      (u : State) (m : List Label) → Counted (w .limits .budget) (s .steps) u → Same d l m → Runs w t last r m u (k u)
 
   -- the rows from r up to r′ do what f does, inside d guards
   record Does (f : Label → State → Result Stop State) (r r′ d : ℕ) : Type 0 where
-    does : (b : Label) (l : List Label) (s : State) (k : State → Result Stop State) → length l ≡ mostDeep + 1 → s .steps ≤ w .budget
+    does : (b : Label) (l : List Label) (s : State) (k : State → Result Stop State) → length l ≡ mostDeep + 1 → s .steps ≤ w .limits .budget
         → getD l d 0 ≡ b → Reaches r′ d l s k → Runs w t last r l s (f b s >>= k)
 
   moved : {f : Label → State → Result Stop State} {r to to′ d : ℕ} → to ≡ to′ → Does f r to d → Does f r to′ d
@@ -75,12 +75,12 @@ module _ (w : Setting) (t : Compiled) (last : ℕ) where
       record { does = λ b l s k n h e q. rw (ok-bind s k) (q s l (record { grown = omega arith; kept = h }) same-refl) }
 
   does-assign : (r d at : ℕ) (x v : Expr) → AssignAt t r d at x v
-      → Does (λ b s. step w at s (assignment w b (s .store) x v) >>= λ y. ok (performed y s)) r (r + 1) d
+      → Does (λ b s. step w at s (attempt w b s x v) >>= λ y. ok (performed w at y s)) r (r + 1) d
   does-assign r d at x v a =
       record {
         does = λ b l s k n h e q.
-            rw (sym e) (assigns {l = l} {s = s} d at x v (λ y. ok (performed y s) >>= k) a (bind-assoc _ _ _)
-            (λ y i. rw (ok-bind (performed y s) k) (q (performed y s) l (ticked w y s (step-early w at s _ y h i)) same-refl)));
+            rw (sym e) (assigns {l = l} {s = s} d at x v (λ y. ok (performed w at y s) >>= k) a (bind-assoc _ _ _)
+            (λ y i. rw (ok-bind (performed w at y s) k) (q (performed w at y s) l (ticked w at y s (step-early w at s _ y h i)) same-refl)));
       }
 
   does-both : (f g : Label → State → Result Stop State) (r mid r′ d : ℕ) → Does f r mid d → Does g mid r′ d
@@ -95,19 +95,19 @@ module _ (w : Setting) (t : Compiled) (last : ℕ) where
       }
 
   -- a guard: each part is shown from its first row, under the guard's label, where the step is within the budget
-  module _ {r d at : ℕ} {g : Expr} {other : ℕ} (a : GuardAt t r d at g other) (l : List Label) (s : State) (h : s .steps ≤ w .budget) where
+  module _ {r d at : ℕ} {g : Expr} {other : ℕ} (a : GuardAt t r d at g other) (l : List Label) (s : State) (h : s .steps ≤ w .limits .budget) where
     abbrev under : Label → List Label
     under y = set l (d + 1) (met w (getD l d 0) y)
 
     guarded : (F G : Label → State → Result Stop State) (k : State → Result Stop State)
-        → ((y : Label) → s .steps < w .budget → Runs w t last (r + 1) (under y) (counted s) (F y (counted s) >>= k))
-        → ((y : Label) → s .steps < w .budget → Runs w t last other (under y) (counted s) (G y (counted s) >>= k))
+        → ((y : Label) → s .steps < w .limits .budget → Runs w t last (r + 1) (under y) (counted s) (F y (counted s) >>= k))
+        → ((y : Label) → s .steps < w .limits .budget → Runs w t last other (under y) (counted s) (G y (counted s) >>= k))
         → Runs w t last r l s ((step w at s (judge w (s .store) g) >>= λ j. choose (j .passes) (F (j .label)) (G (j .label)) (counted s)) >>= k)
     unfolding next choose
     guarded F G k p q =
         guards {s = s} d at g other _ a (bind-assoc _ _ _) (λ j i. go (j .label) (step-early w at s _ j h i) (j .passes))
       where
-        go : (y : Label) → s .steps < w .budget → (c : Bool)
+        go : (y : Label) → s .steps < w .limits .budget → (c : Bool)
             → Runs w t last (next c r other) (under y) (counted s) (choose c (F y) (G y) (counted s) >>= k)
         go y i true = p y i
         go y i false = q y i
@@ -115,8 +115,8 @@ module _ (w : Setting) (t : Compiled) (last : ℕ) where
     -- a part inside the guard: f, and then control comes to where the part ends
     inside : (f : Label → State → Result Stop State) (from to : ℕ) (b : Label) (k : State → Result Stop State) → Does f from to (d + 1)
         → length l ≡ mostDeep + 1 → getD l d 0 ≡ b
-        → ((u : State) (m : List Label) → Counted (w .budget) (s .steps + 1) u → Same d l m → Runs w t last to m u (k u))
-        → (y : Label) → s .steps < w .budget → Runs w t last from (under y) (counted s) (f (met w b y) (counted s) >>= k)
+        → ((u : State) (m : List Label) → Counted (w .limits .budget) (s .steps + 1) u → Same d l m → Runs w t last to m u (k u))
+        → (y : Label) → s .steps < w .limits .budget → Runs w t last from (under y) (counted s) (f (met w b y) (counted s) >>= k)
     unfolding counted
     inside f from to b k p n e q y i =
         let v = a .level in
@@ -163,8 +163,8 @@ module _ (w : Setting) (t : Compiled) (last : ℕ) where
     again b s = exec w (cmd at (while x c)) b s
 
     -- one round, where the rounds after it are shown
-    round : (b : Label) (l : List Label) (s : State) (k : State → Result Stop State) (h : s .steps ≤ w .budget) → Reaches (mid + 1) d l s k
-        → ((y : Label) → s .steps < w .budget
+    round : (b : Label) (l : List Label) (s : State) (k : State → Result Stop State) (h : s .steps ≤ w .limits .budget) → Reaches (mid + 1) d l s k
+        → ((y : Label) → s .steps < w .limits .budget
         → Runs w t last (r + 1) (under a l s h y) (counted s) ((exec w c (met w b y) (counted s) >>= again b) >>= k))
         → Runs w t last r l s (again b s >>= k)
     unfolding counted
@@ -173,8 +173,8 @@ module _ (w : Setting) (t : Compiled) (last : ℕ) where
         (guarded a l s h (λ y u. exec w c (met w b y) u >>= again b) (λ y. ok) k more
         (λ y i. rw (ok-bind (counted s) k) (q (counted s) _ (record { grown = omega arith; kept = omega arith }) (same-set _))))
 
-    rounds : (n : ℕ) (b : Label) (l : List Label) (s : State) (k : State → Result Stop State) → length l ≡ mostDeep + 1 → s .steps ≤ w .budget
-        → w .budget ≤ n + s .steps → getD l d 0 ≡ b → Reaches (mid + 1) d l s k → Runs w t last r l s (again b s >>= k)
+    rounds : (n : ℕ) (b : Label) (l : List Label) (s : State) (k : State → Result Stop State) → length l ≡ mostDeep + 1 → s .steps ≤ w .limits .budget
+        → w .limits .budget ≤ n + s .steps → getD l d 0 ≡ b → Reaches (mid + 1) d l s k → Runs w t last r l s (again b s >>= k)
     rounds zero b l s k full h left e q = round b l s k h q (λ y i. absurd (omega arith))
     rounds (suc n) b l s k full h left e q =
         round b l s k h q
@@ -184,7 +184,7 @@ module _ (w : Setting) (t : Compiled) (last : ℕ) where
         (λ u′ m′ c″ j′. q u′ m′ (record { grown = omega (arith, c′ .grown, c″ .grown); kept = c″ .kept }) (same-trans j j′)))) y i))
 
     does-while : Does (exec w (cmd at (while x c))) r (mid + 1) d
-    does-while = record { does = λ b l s k n h e q. rounds (w .budget) b l s k n h (omega arith) e q }
+    does-while = record { does = λ b l s k n h e q. rounds (w .limits .budget) b l s k n h (omega arith) e q }
 
   -- the rows of a command do what the command does
   mutual
@@ -243,7 +243,7 @@ module _ (w : Setting) (t : Compiled) (last : ℕ) where
 
 -- A block that stands in the tables runs as its command does, from its first row to its end row.
 pub block-runs : (w : Setting) (t : Compiled) (r o : ℕ) (c : Cmd) → BlockAt t r o c → (l : List Label) (s : State) → length l ≡ mostDeep + 1
-    → s .steps ≤ w .budget → Runs w t (r + size c) r l s (exec w c (getD l 0 0) s)
+    → s .steps ≤ w .limits .budget → Runs w t (r + size c) r l s (exec w c (getD l 0 0) s)
 block-runs w t r o c a l s n h =
     let first = rowsOf c 0 r o in
     let e : length first ≡ size c = rows-length c 0 r o in

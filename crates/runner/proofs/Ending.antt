@@ -1,9 +1,12 @@
 -- Laws of a programme that was taken in and played: what it needs, and what its end writes. Assumes nothing.
-use Prim.Native.Nat.{ℕ, zero, suc, _+_, _*_, _/_, _≤_, _<_, min}
+use Prim.Native.Nat.{ℕ, zero, suc, _+_, _-_, _*_, _/_, _≤_, _<_, min}
 use mathlib.Core.Path.{_≡_, refl, sym, ap, ap₂, _∙_}
+use mathlib.Core.Logic.{inl}
 use mathlib.Core.List.{List, [], _∷_, _++_}
 use native.Mathlib.Omega.{arith}
 use lib.ListN.{length, getD}
+use Rattle.store.specs.declared.Answer.{Answer}
+use Rattle.store.specs.declared.Entry.{Entry}
 use Rattle.store.specs.declared.Opened.{Opened}
 use Rattle.store.specs.Result.{Result, ok, refuse, _>>=_, refusedAs}
 use Rattle.store.specs.Value.{Slot, emptySlot, slotWidth, slotBytes, valueBytes}
@@ -18,15 +21,18 @@ use Rattle.programme.specs.Sheet.{Block, kOf, codeAt, headerAt, codeOf, inBlock
 use Rattle.programme.specs.Rows.{Compiled}
 use Rattle.programme.proofs.Starts.{programmed}
 use Rattle.calculus.specs.Rules.{RuleSet}
-use Rattle.calculus.specs.Calculus.{State}
+use Rattle.calculus.specs.Calculus.{Limits, limits, State}
 use Rattle.calculus.specs.Blocks.{Halt, haltAnswer, runBlocks, start}
-use Rattle.calculus.specs.Run.{runProgramme, answerOf, outputOf}
+use Rattle.calculus.specs.Run.{Finished, runProgramme, answerOf, outputOf, entriesOf}
 use Rattle.runner.specs.declared.rules.Judges.{Judges}
+use Rattle.runner.specs.declared.journal.First.{First}
+use Rattle.runner.specs.declared.blocks.Place.{Place}
 use Rattle.runner.specs.declared.blocks.Ended.{Ended}
 use Rattle.runner.specs.declared.blocks.Ended.the-variants as e
 use Rattle.runner.specs.Held.{StoreHeld}
 use Rattle.runner.specs.Playing.{judgesOf, Played, played, HeadersAt, AllUnder, openingPlace, LeftToPlay, EndedAs, finished, halted, PlaysOn, CanPlayOn}
-use Rattle.runner.specs.Whole.{ComesTo, OpeningHeld, TakenIn, Finishes, CanFinish}
+use Rattle.runner.specs.Journal.{Nothing, replayed, openingSeat, opens, playedBy, Left}
+use Rattle.runner.specs.Whole.{Passes, OpeningHeld, TakenIn, Finishes, CanFinish}
 
 -- the next block of a programme that was read
 pub record Next (slots : ℕ) (p : List ℕ) (n i : ℕ) (bs : List Block) : Type 0 where
@@ -85,41 +91,24 @@ written-whole held m old small room =
 
 -- What the end of a run of blocks says
 
-record FinishedAs (w : Tables) (rows : List (List ℕ)) (n : ℕ) (r : Result Halt State) : Type 0 where
+record FinishedAs (w : Tables) (l : Limits) (rows : List (List ℕ)) (n free : ℕ) (r : Result Halt State) : Type 0 where
   pub state : State
   pub held : StoreHeld w (state .store) rows
   pub count : state .steps ≡ n
+  pub entries : length (state .journal) + free ≡ l .entries
   pub same : r ≡ ok state
 
-ended-finished : {w : Tables} {rows : List (List ℕ)} {n : ℕ} {r : Result Halt State} → EndedAs w rows (e.Finished n) r → FinishedAs w rows n r
-ended-finished (finished {s = s} h c) = record { state = s; held = h; count = c; same = refl }
+ended-finished : {w : Tables} {l : Limits} {rows : List (List ℕ)} {n free : ℕ} {r : Result Halt State} → EndedAs w l rows (e.Finished n free) r → FinishedAs w l rows n free r
+ended-finished (finished {s = s} h c j) = record { state = s; held = h; count = c; entries = j; same = refl }
 
 record HaltedAs (n b o t : ℕ) (r : Result Halt State) : Type 0 where
   pub halt : Halt
   pub says : haltAnswer halt ≡ record { number = n; block = b; offset = o; steps = t }
   pub same : r ≡ refuse halt
 
-ended-halted : {w : Tables} {rows : List (List ℕ)} {n b o t : ℕ} {r : Result Halt State} → EndedAs w rows (e.Halted n b o t) r → HaltedAs n b o t r
+ended-halted : {w : Tables} {l : Limits} {rows : List (List ℕ)} {n b o t : ℕ} {r : Result Halt State} → EndedAs w l rows (e.Halted n b o t) r → HaltedAs n b o t r
 unfolding haltAnswer
 ended-halted (halted {h = h} x y z u) = record { halt = h; says = rw (x, y, z, u); same = refl }
-
-module _ (rules : RuleSet) (budget : ℕ) (o : Opening) (bs : List Block) (held : List (List ℕ)) (old : List ℕ) where
-  abbrev whole : Result Halt State
-  whole = runBlocks (o .tables) rules budget 0 bs (start (o .store))
-
-  finish-comes : (k n : ℕ) (out : List ℕ) → length bs ≡ k → o .tables .slots ≤ mostSlots → length old ≡ slotWidth * o .tables .slots → EndedAs (o .tables) held (e.Finished n) whole
-      → out ≡ outAfter held (fitting (o .tables .slots) (length old)) old
-      → ComesTo (runProgramme rules budget o bs) old out (record { number = 0; block = k; offset = 0; steps = n })
-  unfolding runProgramme answerOf outputOf refusedAs _>>=_
-  finish-comes k n out h small room x q =
-      let f = ended-finished x in
-      rw (f .same)
-      (rw (f .count, h) refl, q ∙ written-whole held (o .tables .slots) old small room ∙ ap (λ (y : List (List ℕ)). rowsBytes y 0 (o .tables .slots)) (f .held .same) ∙ rows-bytes (o .tables) (f .state .store) 0 (o .tables .slots) (omega arith))
-
-  halt-comes : (n b p t : ℕ) → EndedAs (o .tables) held (e.Halted n b p t) whole
-      → ComesTo (runProgramme rules budget o bs) old old (record { number = n; block = b; offset = p; steps = t })
-  unfolding runProgramme answerOf outputOf refusedAs _>>=_
-  halt-comes n b p t x = let h = ended-halted x in rw (h .same) (sym (h .says), refl)
 
 -- an opened store and a programme that was taken in can be played
 module _ (o : Opening) (t : Opened) (held : List (List ℕ)) (h : OpeningHeld o t held) (j : Judges) (rules : RuleSet) (q : j ≡ judgesOf (ok rules)) (p : List ℕ) (g : Played)
@@ -131,11 +120,13 @@ module _ (o : Opening) (t : Opened) (held : List (List ℕ)) (h : OpeningHeld o 
   pub all-under : AllUnder (o .tables) rules g
   all-under = record { grounds = h .grounds; order = sym (order ∙ tables); judges = judges ∙ q }
 
-  pub left-all : (k : ℕ) → k ≡ kOf p → LeftToPlay (o .tables) rules g p k openingPlace held (runBlocks (o .tables) rules (g .budget) 0 bs (start (o .store)))
+  pub left-all : (l : Limits) → l .budget ≡ g .budget → (k : ℕ) → k ≡ kOf p
+      → LeftToPlay (o .tables) rules l g p k (openingPlace (l .entries)) held (runBlocks (o .tables) rules l 0 bs (start (o .store)))
   unfolding start
-  left-all k e =
+  left-all l b k e =
       let y = programmed _ _ p bs (x .sheet) in
       record {
+        budget = b;
         rest = bs;
         count = omega (arith, e, blocks-count _ p (kOf p) 0 bs (y .reads));
         headers = blocks-headers _ _ p (kOf p) 0 bs (λ i l. y .headers i (omega arith)) (y .reads);
@@ -144,6 +135,8 @@ module _ (o : Opening) (t : Opened) (held : List (List ℕ)) (h : OpeningHeld o 
         state = start (o .store);
         store-held = h .store-held;
         steps = refl;
+        counts = λ i. omega (arith, h .unwritten i);
+        entries = omega arith;
         kept = omega arith;
         means = refl;
       }
@@ -151,12 +144,42 @@ module _ (o : Opening) (t : Opened) (held : List (List ℕ)) (h : OpeningHeld o 
   pub sheet-room : codeAt (kOf p) ≤ length p
   sheet-room = let y = programmed _ _ p bs (x .sheet) in omega (arith, y .lengths .size)
 
--- What the end of the blocks says of the run, for whatever opening and programme stand behind
-module _ (t : Opened) (j : Judges) (budget : ℕ) (p : List ℕ) (tables : Compiled) (held : List (List ℕ)) (k : ℕ) (q : k ≡ kOf p) where
-  abbrev by : Played
-  by = played tables (t .table) j budget
+-- what is left to play of a run that finishes
+abbrev finishing : {w : Tables} {rules : RuleSet} {l : Limits} {g : Played} {p : List ℕ} {k : ℕ} {from : Place} {held : List (List ℕ)} {whole : Result Halt State}
+    → LeftToPlay w rules l g p k from held whole → (s : State) → whole ≡ ok s → LeftToPlay w rules l g p k from held (ok s)
+finishing l s e =
+    record {
+      budget = l .budget;
+      rest = l .rest;
+      count = l .count;
+      headers = l .headers;
+      operand = l .operand;
+      stand = l .stand;
+      state = l .state;
+      store-held = l .store-held;
+      steps = l .steps;
+      counts = l .counts;
+      entries = l .entries;
+      kept = l .kept;
+      means = l .means ∙ e;
+    }
 
-  pub finish-can : CanFinish t j p tables held → CanPlayOn by p k openingPlace held
+-- a run that was refused leaves nothing to make again
+pub refused-passes : (x : Result Answer Finished) (room : ℕ) (p : List ℕ) (t : Compiled) (held : List (List ℕ)) (old : List ℕ) (a : Answer) (r : First)
+    → x ≡ refuse a → Nothing a r → Passes x room p t held old old r
+unfolding answerOf outputOf entriesOf Left
+refused-passes x room p t held old a r e n =
+    rw e (record { answered = n .answered; written = refl; many = n .none; fits = omega (arith, n .none); left = tt })
+
+-- What the end of the blocks says of the run, for whatever opening and programme stand behind
+module _ (t : Opened) (j : Judges) (budget entries : ℕ) (p : List ℕ) (compiled : Compiled) (held : List (List ℕ)) (k : ℕ) (q : k ≡ kOf p) where
+  abbrev by : Played
+  by = played compiled (t .table) j budget
+
+  abbrev within : Limits
+  within = limits budget entries
+
+  pub finish-can : CanFinish t j p compiled held → CanPlayOn by p k (openingPlace entries) held
   finish-can c =
       let s = c .start in
       let o = s .opening in
@@ -164,25 +187,74 @@ module _ (t : Opened) (j : Judges) (budget : ℕ) (p : List ℕ) (tables : Compi
         tables = o .tables;
         rules = s .rules;
         under = all-under o t held (s .opening-held) j (s .rules) (s .judges) p by (c .blocks) (c .taken) refl refl;
+        limits = within;
         whole = _;
-        left = left-all o t held (s .opening-held) j (s .rules) (s .judges) p by (c .blocks) (c .taken) refl refl k q;
+        left = left-all o t held (s .opening-held) j (s .rules) (s .judges) p by (c .blocks) (c .taken) refl refl within refl k q;
         count = q;
         sheet = rw q (sheet-room o t held (s .opening-held) j (s .rules) (s .judges) p by (c .blocks) (c .taken) refl refl);
       }
 
   module _ (held′ : List (List ℕ)) (old : List ℕ) where
-    module _ (rules : RuleSet) (o : Opening) (bs : List Block) (h : OpeningHeld o t held) (d : j ≡ judgesOf (ok rules)) (x : TakenIn o p tables bs) (r : Ended) (f : PlaysOn by p k openingPlace held held′ r) where
-      ended : EndedAs (o .tables) held′ r (runBlocks (o .tables) rules budget 0 bs (start (o .store)))
-      ended = f (o .tables) rules _ (all-under o t held h j rules d p by bs x refl refl) (left-all o t held h j rules d p by bs x refl refl k q)
+    module _ (rules : RuleSet) (o : Opening) (bs : List Block) (h : OpeningHeld o t held) (d : j ≡ judgesOf (ok rules)) (x : TakenIn o p compiled bs) where
+      abbrev whole : Result Halt State
+      whole = runBlocks (o .tables) rules within 0 bs (start (o .store))
 
-    pub finish-done : (n : ℕ) (out : List ℕ) → PlaysOn by p k openingPlace held held′ (e.Finished n) → out ≡ outAfter held′ (fitting (t .slots) (length old)) old
-        → Finishes t j budget p tables held old out (record { number = 0; block = k; offset = 0; steps = n })
-    unfolding openedOf
-    finish-done n out f w rules o bs h d x room =
+      ended : (r : Ended) → PlaysOn by p k (openingPlace entries) held held′ r → EndedAs (o .tables) within held′ r whole
+      ended r f =
+          f (o .tables) rules within _ (all-under o t held h j rules d p by bs x refl refl) (left-all o t held h j rules d p by bs x refl refl within refl k q)
+
+      -- the writes that a second pass is to make
+      writes-left : (s : State) (r : First) → whole ≡ ok s → r .table ≡ t .table → r .judges ≡ j → r .budget ≡ budget
+          → (js : List Entry) → s .journal ≡ js → Left (replayed p compiled r) (opens held) js
+      unfolding Left openingSeat start left-all
+      writes-left s r e a b c [] m = tt
+      writes-left s r e a b c (y ∷ ys) m =
+          let g = playedBy (replayed p compiled r) in
+          inl (record {
+            run =
+                record {
+                  tables = o .tables;
+                  rules = rules;
+                  limits = within;
+                  end = s;
+                  under = all-under o t held h j rules d p g bs x a b;
+                  budget = sym c;
+                  sheet = sheet-room o t held h j rules d p g bs x a b;
+                };
+            is = refl;
+            plays = finishing (left-all o t held h j rules d p g bs x a b within (sym c) (kOf p) refl) s e;
+            left = m;
+          })
+
+    pub finish-few : CanFinish t j p compiled held → (n free : ℕ) → PlaysOn by p k (openingPlace entries) held held′ (e.Finished n free) → free ≤ entries
+    finish-few c n free f =
+        let s = c .start in
+        omega (arith, ended-finished (ended (s .rules) (s .opening) (c .blocks) (s .opening-held) (s .judges) (c .taken) (e.Finished n free) f) .entries)
+
+    pub finish-done : (n free : ℕ) (out : List ℕ) → PlaysOn by p k (openingPlace entries) held held′ (e.Finished n free) → out ≡ outAfter held′ (fitting (t .slots) (length old)) old
+        → Finishes t j budget entries p compiled held old out
+        (record { answer = record { number = 0; block = k; offset = 0; steps = n }; writes = entries - free; table = t .table; judges = j; budget = budget })
+    unfolding openedOf runProgramme answerOf outputOf entriesOf refusedAs _>>=_
+    finish-done n free out f w rules o bs h d x room =
         let slots : t .slots ≡ o .tables .slots = ap (λ (z : Opened). z .slots) (h .opened) in
         let y = programmed _ _ p bs (x .sheet) in
-        finish-comes rules budget o bs held′ old k n out (blocks-count _ p (kOf p) 0 bs (y .reads) ∙ sym q) (h .small) room (ended rules o bs h d x (e.Finished n) f) (rw slots at w)
+        let z = ended-finished (ended rules o bs h d x (e.Finished n free) f) in
+        let count : length bs ≡ k = blocks-count _ p (kOf p) 0 bs (y .reads) ∙ sym q in
+        rw (z .same)
+        (record {
+          answered = rw (z .count, count) refl;
+          written =
+              w ∙ ap (λ (i : ℕ). outAfter held′ (fitting i (length old)) old) slots ∙ written-whole held′ (o .tables .slots) old (h .small) room
+              ∙ ap (λ (y : List (List ℕ)). rowsBytes y 0 (o .tables .slots)) (z .held .same)
+              ∙ rows-bytes (o .tables) (z .state .store) 0 (o .tables .slots) (omega (arith, h .small));
+          many = omega (arith, z .entries);
+          fits = omega arith;
+          left = writes-left rules o bs h d x (z .state) _ (z .same) refl refl refl _ refl;
+        })
 
-    pub finish-halt : (n b i m : ℕ) → PlaysOn by p k openingPlace held held′ (e.Halted n b i m)
-        → Finishes t j budget p tables held old old (record { number = n; block = b; offset = i; steps = m })
-    finish-halt n b i m f rules o bs h d x room = halt-comes rules budget o bs held′ old n b i m (ended rules o bs h d x (e.Halted n b i m) f)
+    pub finish-halt : (n b i m : ℕ) (r : First) → PlaysOn by p k (openingPlace entries) held held′ (e.Halted n b i m)
+        → Nothing (record { number = n; block = b; offset = i; steps = m }) r → Finishes t j budget entries p compiled held old old r
+    unfolding runProgramme refusedAs _>>=_
+    finish-halt n b i m r f c rules o bs h d x room =
+        let z = ended-halted (ended rules o bs h d x (e.Halted n b i m) f) in
+        refused-passes _ entries p compiled held old _ r (rw (z .same, z .says)) c

@@ -4,6 +4,7 @@ use mathlib.Core.Path.{_≡_, refl, sym, _∙_}
 use mathlib.Core.Logic.{_⊎_, ⊎-elim}
 use mathlib.Core.List.{List}
 use native.Mathlib.Omega.{arith}
+use lib.ListN.{getD}
 use native.Mathlib.Decide.{ℕ-discrete}
 use Rattle.store.specs.Result.{Result}
 use Rattle.programme.specs.Rows.{endKind, assignKind, guardKind, jumpKind, mostRows}
@@ -13,23 +14,23 @@ use Rattle.runner.specs.declared.machine.Ran.the-variants as r
 use Rattle.runner.specs.Answers.{Control, control}
 use Rattle.runner.specs.Held.{Serves, StopsAs}
 use Rattle.runner.specs.Running.{kindAt, offsetAt}
-use Rattle.runner.specs.Machine.{Given, Place, place, GoesOn, Paused, Halts, Moves, Within, Moved, CanGo, CanMove, CanTake, CanStep, Ends, Went}
+use Rattle.runner.specs.Machine.{Given, Place, place, GoesOn, Allows, Paused, Full, Halts, Moves, Within, Moved, CanGo, CanMove, CanTake, CanStep, Ends, Went}
 use Rattle.runner.proofs.Answered.{control-on, control-stopped}
-use Rattle.runner.proofs.Moving.{step-spent, assign-ends, guard-ends, takes-assign, takes-guard, takes-jump, run-ends, step-due, run-inside, less-jump, less-stop}
+use Rattle.runner.proofs.Moving.{step-spent, step-refused, attempt-full, assign-ends, guard-ends, takes-assign, takes-guard, takes-jump, run-ends, step-due, run-inside, less-jump, less-stop}
 use Rattle.runner.proofs.Taking.{firstAt}
 
 -- Jumps
 
 pub jump-on : {g : Given} {p : Place} (c : CanMove g p) (target : ℕ) → kindAt (g .tables) (p .row) ≡ jumpKind → target ≡ firstAt (g .tables) (p .row)
-    → Moved g p (p .labels) (p .store) (Control.On target (p .steps))
+    → Moved g p (p .labels) (p .store) (Control.On target (p .steps) (p .free))
 unfolding Moves Within
 jump-on {g} {p} c target k e =
     let j = takes-jump (c .can .goes .runs) k in
     record {
-      same = λ w last whole h b o.
+      same = λ w last room whole h b o.
           let t = takes-jump (o .runs) k in
           record { labels = o .labels; state = o .state; labels-held = o .labels-held; state-held = o .state-held; runs = rw (e, t .stands .holds) (t .then) };
-      less = less-jump g (p .row) (p .steps) target k (j .stands .early) (rw (e, j .stands .holds) (j .stands .falls));
+      less = less-jump g (p .row) (p .steps) (p .free) target k (j .stands .early) (rw (e, j .stands .holds) (j .stands .falls));
       within = c .can .within;
     }
 
@@ -40,12 +41,17 @@ module _ {g : Given} {p : Place} (c : CanTake g p) where
   due = step-due (c .can .can .goes .runs) (c .can .is) (c .is)
 
   -- none is left: the run is paused there
-  pub spent-stops : p .steps ≡ g .budget → Moved g p (p .labels) (p .store) (Control.Stopped 17 (p .row) (p .steps))
+  pub spent-stops : p .steps ≡ g .budget → Moved g p (p .labels) (p .store) (Control.Stopped 17 (p .row) (p .steps) (p .free))
   unfolding Moves Within
   spent-stops e =
       record {
-        same = λ w last whole h b o. record { paused = λ _. record { due = due; spent = e; goes = o }; final = λ n. absurd (n refl) };
-        less = less-stop g (p .row) (p .steps) 17;
+        same = λ w last room whole h b o.
+            record {
+              paused = λ _. record { due = due; spent = e; goes = o };
+              full = λ k. absurd (omega arith);
+              final = λ n _. absurd (n refl);
+            };
+        less = less-stop g (p .row) (p .steps) (p .free) 17;
         within = (c .can .can .within, run-inside (c .can .can .goes .runs));
       }
 
@@ -62,19 +68,20 @@ module _ {g : Given} {p : Place} (c : CanTake g p) where
 -- The loop: what is left to do comes to what the whole comes to
 
 pub record Goes (g : Given) (p : Place) (labels : List ℕ) (store : List (List ℕ)) (x : Control) : Type 0 where
-  pub means : (w : Setting) (last : ℕ) (whole : Result Stop State) → Serves w (g .terms) (g .masks) → g .budget ≤ w .budget
-      → GoesOn w (g .tables) last p whole → Moves w g last labels store x whole
+  pub means : (w : Setting) (last room : ℕ) (whole : Result Stop State) → Serves w (g .terms) (g .masks) → Allows w g room
+      → GoesOn w (g .tables) last room p whole → Moves w g last room labels store x whole
   pub within : Within (g .budget) x
 
 module _ {g : Given} {p : Place} (c : CanGo g p) where
-  pub opening : Goes g p (p .labels) (p .store) (Control.On (p .row) (p .steps))
+  pub opening : Goes g p (p .labels) (p .store) (Control.On (p .row) (p .steps) (p .free))
   unfolding Moves Within
-  opening = record { means = λ w last whole h b o. o; within = c .within }
+  opening = record { means = λ w last room whole h b o. o; within = c .within }
 
   module _ {labels : List ℕ} {store : List (List ℕ)} where
-    goes-on : {row steps : ℕ} → Goes g p labels store (Control.On row steps) → GoesOn (c .setting) (g .tables) (c .last) (place row steps labels store) (c .whole)
+    goes-on : {row steps free : ℕ} → Goes g p labels store (Control.On row steps free)
+        → GoesOn (c .setting) (g .tables) (c .last) (c .room) (place row steps free labels store) (c .whole)
     unfolding Moves
-    goes-on o = o .means (c .setting) (c .last) (c .whole) (c .serves) (c .enough) (c .goes)
+    goes-on o = o .means (c .setting) (c .last) (c .room) (c .whole) (c .serves) (c .enough) (c .goes)
 
     -- every row that it comes to is one
     pub row-inside : (x : Next) → Goes g p labels store (control x) → x .row < mostRows
@@ -85,62 +92,77 @@ module _ {g : Given} {p : Place} (c : CanGo g p) where
         go (yes e) = run-inside (goes-on (rw (control-on x e) at o) .runs)
         go (no e) = (rw (control-stopped x e) at o) .within .1
 
-    pub can-move : {row steps : ℕ} → Goes g p labels store (Control.On row steps) → (kindAt (g .tables) row ≡ endKind → ⊥)
-        → CanMove g (place row steps labels store)
+    pub can-move : {row steps free : ℕ} → Goes g p labels store (Control.On row steps free) → (kindAt (g .tables) row ≡ endKind → ⊥)
+        → CanMove g (place row steps free labels store)
     unfolding Within
     can-move o e =
         record {
-          can = record { setting = c .setting; serves = c .serves; enough = c .enough; last = c .last; whole = c .whole; goes = goes-on o; within = o .within };
+          can =
+              record {
+                setting = c .setting;
+                serves = c .serves;
+                room = c .room;
+                enough = c .enough;
+                last = c .last;
+                whole = c .whole;
+                goes = goes-on o;
+                within = o .within;
+              };
           is = e;
         }
 
 module _ {g : Given} {p : Place} {labels : List ℕ} {store : List (List ℕ)} where
-  pub moved : {row steps : ℕ} {labels′ : List ℕ} {store′ : List (List ℕ)} {x : Control} → Goes g p labels store (Control.On row steps)
-      → Moved g (place row steps labels store) labels′ store′ x → Goes g p labels′ store′ x
+  pub moved : {row steps free : ℕ} {labels′ : List ℕ} {store′ : List (List ℕ)} {x : Control} → Goes g p labels store (Control.On row steps free)
+      → Moved g (place row steps free labels store) labels′ store′ x → Goes g p labels′ store′ x
   unfolding Moves
-  moved o m = record { means = λ w last whole h b q. m .same w last whole h b (o .means w last whole h b q); within = m .within }
+  moved o m = record { means = λ w last room whole h b q. m .same w last room whole h b (o .means w last room whole h b q); within = m .within }
 
-  pub finished : {row steps : ℕ} → Goes g p labels store (Control.On row steps) → kindAt (g .tables) row ≡ endKind
-      → Went g p labels store (r.Done row steps)
+  pub finished : {row steps free : ℕ} → Goes g p labels store (Control.On row steps free) → kindAt (g .tables) row ≡ endKind
+      → Went g p labels store (r.Done row steps free)
   unfolding Moves Ends
   finished o e =
       record {
-        ends = λ w last whole h b q.
-            let m = o .means w last whole h b q in
+        ends = λ w last room whole h b q.
+            let m = o .means w last room whole h b q in
             let z = run-ends (m .runs) e in
             (z .0, record { state = m .state; held = m .state-held; means = z .1 });
       }
 
-  pub halted : {number row at steps : ℕ} → Goes g p labels store (Control.Stopped number row steps) → at ≡ offsetAt (g .tables) row
+  pub halted : {number row at steps free : ℕ} → Goes g p labels store (Control.Stopped number row steps free) → at ≡ offsetAt (g .tables) row
       → Went g p labels store (r.Stopped number row at steps)
   unfolding Moves Ends
-  halted o e = record { ends = λ w last whole h b q. (e, o .means w last whole h b q) }
+  halted {free = free} o e = record { ends = λ w last room whole h b q. (e, (free, o .means w last room whole h b q)) }
 
--- Under the machine's own budget a run that is paused is stopped by 17 ..
-pub paused-stops : (w : Setting) (g : Given) (last : ℕ) (p : Place) (whole : Result Stop State) → w .budget ≡ g .budget
-    → Paused w g last p whole → StopsAs w (p .store) 17 (offsetAt (g .tables) (p .row)) (p .steps) whole
-paused-stops w g last p whole b z =
-    record {
-      state = o .state;
-      held = o .state-held;
-      means =
-          ⊎-elim
-          (λ k. let t = takes-assign (o .runs) k in rw (t .stands .holds) (assign-ends t _ (step-spent w (t .at) (o .state) _ e)))
-          (λ k. let t = takes-guard (o .runs) k in rw (t .stands .holds) (guard-ends t _ (step-spent w (t .at) (o .state) _ e)))
-          (z .due);
-    }
-  where
-    o : GoesOn w (g .tables) last p whole
-    o = z .goes
+-- Within the machine's own limits a run that is paused is stopped by 17 or 18 ..
+module _ (w : Setting) (g : Given) (last room : ℕ) (p : Place) (whole : Result Stop State) (b : w .limits .budget ≡ g .budget) where
+  pub paused-stops : Paused w g last room p whole → StopsAs 17 (offsetAt (g .tables) (p .row)) (p .steps) whole
+  paused-stops z =
+      let o = z .goes in
+      let e : o .state .steps ≡ w .limits .budget = o .state-held .steps ∙ z .spent ∙ sym b in
+      record {
+        state = o .state;
+        counted = o .state-held .steps;
+        means =
+            ⊎-elim
+            (λ k. let t = takes-assign (o .runs) k in rw (t .stands .holds) (assign-ends t _ (step-spent w (t .at) (o .state) _ e)))
+            (λ k. let t = takes-guard (o .runs) k in rw (t .stands .holds) (guard-ends t _ (step-spent w (t .at) (o .state) _ e)))
+            (z .due);
+      }
 
-    e : o .state .steps ≡ w .budget
-    e = o .state-held .steps ∙ z .spent ∙ sym b
+  full-stops : w .limits .entries ≡ room → Full w g last room p whole → StopsAs 18 (offsetAt (g .tables) (p .row)) (p .steps) whole
+  full-stops e z =
+      let o = z .goes in
+      let t = takes-assign (o .runs) (z .due) in
+      let a = attempt-full w (getD (o .labels) (t .depth) 0) (o .state) (t .x) (t .v) (omega (arith, o .state-held .entries, z .none, e)) in
+      let l : o .state .steps ≡ w .limits .budget → ⊥ = λ q. omega (arith, o .state-held .steps, z .left, b, q) in
+      record { state = o .state; counted = o .state-held .steps; means = rw (t .stands .holds) (assign-ends t _ (step-refused w (t .at) (o .state) _ 18 l a)) }
 
--- .. and so a run that was stopped is stopped by its number.
-pub halts-stops : (w : Setting) (g : Given) (last number : ℕ) (p : Place) (whole : Result Stop State) → w .budget ≡ g .budget
-    → Halts w g last number p whole → StopsAs w (p .store) number (offsetAt (g .tables) (p .row)) (p .steps) whole
-halts-stops w g last number p whole b z = go (ℕ-discrete number 17)
-  where
-    go : Dec (number ≡ 17) → StopsAs w (p .store) number (offsetAt (g .tables) (p .row)) (p .steps) whole
-    go (yes e) = rw e (paused-stops w g last p whole b (z .paused e))
-    go (no e) = z .final e
+  -- .. and so a run that was stopped is stopped by its number.
+  pub halts-stops : (number : ℕ) → w .limits .entries ≡ room → Halts w g last room number p whole
+      → StopsAs number (offsetAt (g .tables) (p .row)) (p .steps) whole
+  halts-stops number e z = go (ℕ-discrete number 17) (ℕ-discrete number 18)
+    where
+      go : Dec (number ≡ 17) → Dec (number ≡ 18) → StopsAs number (offsetAt (g .tables) (p .row)) (p .steps) whole
+      go (yes q) d = rw q (paused-stops (z .paused q))
+      go (no q) (yes r) = rw r (full-stops e (z .full r))
+      go (no q) (no r) = z .final q r

@@ -5,8 +5,8 @@ use mathlib.Core.Bool.{Bool, true, false}
 use mathlib.Core.Logic.{_⊎_, inl, inr, ⊎-elim}
 use mathlib.Core.List.{List}
 use native.Mathlib.Omega.{arith}
-use borrow.Author.Tests.{eq-eqb, ne-eqb, eqb-true, eqb-false}
-use lib.ListN.{getD, set, length-set}
+use borrow.Author.Tests.{eq-eqb, ne-eqb, eqb-true, eqb-false, lt-ltb, le-ltb}
+use lib.ListN.{length, getD, set, length-set}
 use lib.Seq.{getD-set-same, getD-set-other}
 use lib.Dec.{eqb}
 use lib.Bits.{bitAnd}
@@ -17,7 +17,7 @@ use Rattle.store.proofs.Result.{post-refused}
 use Rattle.programme.specs.Syntax.{Expr}
 use Rattle.programme.specs.Code.{mostDeep}
 use Rattle.programme.specs.Rows.{Compiled, endKind, assignKind, guardKind, jumpKind, mostRows}
-use Rattle.calculus.specs.Calculus.{Setting, Store, State, Stop, Judged, Write, judge, assignment, step, counted, performed, stopAt}
+use Rattle.calculus.specs.Calculus.{Setting, Store, State, Stop, Judged, Write, judge, assignment, step, attempt, counted, performed, stopAt}
 use Rattle.calculus.proofs.Refusals as refusals
 use Rattle.runner.specs.Answers.{Control}
 use Rattle.runner.specs.Held.{LabelHeld}
@@ -29,18 +29,18 @@ use Rattle.runner.proofs.Labels.{meet-held}
 
 module _ {A : Type 0} (w : Setting) (at : ℕ) (s : State) (r : Result ℕ A) where
   -- one is left: the step is made, or refused by the rules
-  pub step-made : (a : A) → (s .steps ≡ w .budget → ⊥) → r ≡ ok a → step w at s r ≡ ok a
+  pub step-made : (a : A) → (s .steps ≡ w .limits .budget → ⊥) → r ≡ ok a → step w at s r ≡ ok a
   unfolding step refusedAs require
-  step-made a h e = rw (ne-eqb (s .steps) (w .budget) h, e)
+  step-made a h e = rw (ne-eqb (s .steps) (w .limits .budget) h, e)
 
-  pub step-refused : (n : ℕ) → (s .steps ≡ w .budget → ⊥) → r ≡ refuse n → step w at s r ≡ refuse (stopAt at s n)
+  pub step-refused : (n : ℕ) → (s .steps ≡ w .limits .budget → ⊥) → r ≡ refuse n → step w at s r ≡ refuse (stopAt at s n)
   unfolding step refusedAs require
-  step-refused n h e = rw (ne-eqb (s .steps) (w .budget) h, e)
+  step-refused n h e = rw (ne-eqb (s .steps) (w .limits .budget) h, e)
 
   -- none is left
-  pub step-spent : s .steps ≡ w .budget → step w at s r ≡ refuse (stopAt at s 17)
+  pub step-spent : s .steps ≡ w .limits .budget → step w at s r ≡ refuse (stopAt at s 17)
   unfolding step refusedAs require
-  step-spent e = rw (eq-eqb (s .steps) (w .budget) e)
+  step-spent e = rw (eq-eqb (s .steps) (w .limits .budget) e)
 
 module _ {E A B : Type 0} (r : Result E A) (k : A → Result E B) where
   ok-then : (a : A) → r ≡ ok a → (r >>= k) ≡ k a
@@ -51,22 +51,35 @@ module _ {E A B : Type 0} (r : Result E A) (k : A → Result E B) where
   unfolding _>>=_
   refuse-then x e = rw e
 
--- the rules refuse no step by 17
+-- an entry is free for an assignment, or none is
+module _ (w : Setting) (branch : Label) (s : State) (x v : Expr) where
+  pub attempt-free : length (s .journal) < w .limits .entries → attempt w branch s x v ≡ assignment w branch (s .store) x v
+  unfolding attempt require
+  attempt-free h = rw (lt-ltb (length (s .journal)) (w .limits .entries) h)
+
+  pub attempt-full : w .limits .entries ≤ length (s .journal) → attempt w branch s x v ≡ refuse 18
+  unfolding attempt require
+  attempt-full h = rw (le-ltb (length (s .journal)) (w .limits .entries) h)
+
+-- the rules refuse no step by 17 or 18
+abbrev pub ByRules : ℕ → Type 0
+ByRules n = (n ≡ 17 → ⊥) × (n ≡ 18 → ⊥)
+
 module _ (w : Setting) (s : Store) where
-  never-17 : refusals.Refusing (λ e. e ≡ 17 → ⊥) w
-  never-17 =
+  by-rules : refusals.Refusing ByRules w
+  by-rules =
       record {
-        kind = λ e. omega arith;
-        region = λ i f e. omega arith;
-        view = λ v f e. omega arith;
-        labels = λ i x y branch f e. omega arith;
+        kind = (λ e. omega arith, λ e. omega arith);
+        region = λ i f. (λ e. omega arith, λ e. omega arith);
+        view = λ v f. (λ e. omega arith, λ e. omega arith);
+        labels = λ i x y branch f. (λ e. omega arith, λ e. omega arith);
       }
 
-  pub assign-not-17 : (branch : Label) (x v : Expr) {n : ℕ} → assignment w branch s x v ≡ refuse n → n ≡ 17 → ⊥
-  assign-not-17 branch x v {n} e = post-refused _ _ (assignment w branch s x v) n (refusals.assigns _ w never-17 branch s x v) e
+  pub assign-by-rules : (branch : Label) (x v : Expr) {n : ℕ} → assignment w branch s x v ≡ refuse n → ByRules n
+  assign-by-rules branch x v {n} e = post-refused _ _ (assignment w branch s x v) n (refusals.assigns _ w by-rules branch s x v) e
 
-  pub judge-not-17 : (g : Expr) {n : ℕ} → judge w s g ≡ refuse n → n ≡ 17 → ⊥
-  judge-not-17 g {n} e = post-refused _ _ (judge w s g) n (refusals.judges _ w never-17 s g) e
+  pub judge-by-rules : (g : Expr) {n : ℕ} → judge w s g ≡ refuse n → ByRules n
+  judge-by-rules g {n} e = post-refused _ _ (judge w s g) n (refusals.judges _ w by-rules s g) e
 
 -- The row at hand
 
@@ -78,8 +91,8 @@ module _ (w : Setting) (t : Compiled) (last row : ℕ) (l : List Label) (s : Sta
     pub v : Expr
     pub k : Write → Result Stop State
     pub stands : AssignAt t row depth at x v
-    pub means : whole ≡ (step w at s (assignment w (getD l depth 0) (s .store) x v) >>= k)
-    pub then : (y : Write) → step w at s (assignment w (getD l depth 0) (s .store) x v) ≡ ok y → Runs w t last (row + 1) l (performed y s) (k y)
+    pub means : whole ≡ (step w at s (attempt w (getD l depth 0) s x v) >>= k)
+    pub then : (y : Write) → step w at s (attempt w (getD l depth 0) s x v) ≡ ok y → Runs w t last (row + 1) l (performed w at y s) (k y)
 
   pub record TakesGuard : Type 0 where
     pub depth : ℕ
@@ -100,11 +113,11 @@ module _ (w : Setting) (t : Compiled) (last row : ℕ) (l : List Label) (s : Sta
 -- a step that is made goes on, and one that is refused is the end
 module _ {w : Setting} {t : Compiled} {last row : ℕ} {l : List Label} {s : State} {whole : Result Stop State} where
   module _ (a : TakesAssign w t last row l s whole) where
-    pub assign-goes : (y : Write) → step w (a .at) s (assignment w (getD l (a .depth) 0) (s .store) (a .x) (a .v)) ≡ ok y
-        → Runs w t last (row + 1) l (performed y s) whole
+    pub assign-goes : (y : Write) → step w (a .at) s (attempt w (getD l (a .depth) 0) s (a .x) (a .v)) ≡ ok y
+        → Runs w t last (row + 1) l (performed w (a .at) y s) whole
     assign-goes y e = rw (a .means ∙ ok-then _ (a .k) y e) (a .then y e)
 
-    pub assign-ends : (x : Stop) → step w (a .at) s (assignment w (getD l (a .depth) 0) (s .store) (a .x) (a .v)) ≡ refuse x → whole ≡ refuse x
+    pub assign-ends : (x : Stop) → step w (a .at) s (attempt w (getD l (a .depth) 0) s (a .x) (a .v)) ≡ refuse x → whole ≡ refuse x
     assign-ends x e = a .means ∙ refuse-then _ (a .k) x e
 
   module _ (a : TakesGuard w t last row l s whole) where
@@ -207,19 +220,19 @@ module _ (t : Compiled) where
   unfolding rank
   rank-guard row e = rw (e, rank)
 
-module _ (g : Given) (row steps : ℕ) where
+module _ (g : Given) (row steps free : ℕ) where
   -- a step, a jump and a stop lessen the weight
-  pub less-step : (row′ : ℕ) → steps < g .budget → weight g (Control.On row′ (steps + 1)) < weight g (Control.On row steps)
+  pub less-step : (row′ free′ : ℕ) → steps < g .budget → weight g (Control.On row′ (steps + 1) free′) < weight g (Control.On row steps free)
   unfolding weight
-  less-step row′ h = omega (arith, rank-most (g .tables) row′)
+  less-step row′ free′ h = omega (arith, rank-most (g .tables) row′)
 
   pub less-jump : (row′ : ℕ) → kindAt (g .tables) row ≡ jumpKind → row < mostRows → (row < row′) ⊎ (kindAt (g .tables) row′ ≡ guardKind)
-      → weight g (Control.On row′ steps) < weight g (Control.On row steps)
+      → weight g (Control.On row′ steps free) < weight g (Control.On row steps free)
   unfolding weight
   less-jump row′ k s h =
       ⊎-elim (λ q. omega (arith, rank-most (g .tables) row′, rank-jump (g .tables) row k))
       (λ q. omega (arith, rank-guard (g .tables) row′ q, rank-jump (g .tables) row k)) h
 
-  pub less-stop : (number : ℕ) → weight g (Control.Stopped number row steps) < weight g (Control.On row steps)
+  pub less-stop : (number : ℕ) → weight g (Control.Stopped number row steps free) < weight g (Control.On row steps free)
   unfolding weight
   less-stop number = omega arith

@@ -4,12 +4,13 @@ use mathlib.Core.Path.{_≡_, refl, sym, ap, _∙_}
 use mathlib.Core.Bool.{true, false, false≢true}
 use mathlib.Core.List.{List}
 use native.Mathlib.Omega.{arith}
-use lib.ListN.{length}
+use native.Mathlib.Decide.{decLt}
+use lib.ListN.{length, getD}
 use borrow.Author.Tests.{le-leb, lt-leb, eq-eqb, ne-eqb}
 use Rattle.store.specs.declared.Answer.{Answer}
 use Rattle.store.specs.declared.Opened.{Opened}
 use Rattle.store.specs.Result.{Result, ok, refuse, _>>=_, require, refusedAs, unplaced}
-use Rattle.store.specs.Value.{slotWidth}
+use Rattle.store.specs.Value.{Slot, opened, emptySlot, slotWidth}
 use Rattle.store.specs.Sheet.{Opening, mostSlots, storeSheet}
 use Rattle.store.specs.Held.{openedOf, heldAfter}
 use Rattle.store.proofs.Result.{Post, Refuses, post-at, Positive}
@@ -21,11 +22,20 @@ use Rattle.programme.proofs.Refusals.{programme-refuses}
 use Rattle.calculus.specs.Rules.{RuleSet, rulesOf}
 use Rattle.calculus.specs.Blocks.{mostBudget}
 use Rattle.calculus.proofs.Rules.{rules-refuse}
-use Rattle.calculus.specs.Run.{call, runOpened, runUnder, run, answerOf, outputOf}
+use Rattle.calculus.specs.Run.{call, runOpened, runUnder, run}
 use Rattle.runner.specs.declared.rules.Judges.{Judges}
+use Rattle.runner.specs.declared.journal.First.{First}
 use Rattle.runner.specs.Running.{BlocksAt}
 use Rattle.runner.specs.Playing.{judgesOf}
-use Rattle.runner.specs.Whole.{ComesTo, OpeningHeld, RunsOpened, CanStart, Finishes, CanFinish}
+use Rattle.runner.specs.Journal.{Nothing}
+use Rattle.runner.specs.Whole.{OpeningHeld, RunsOpened, CanStart, Finishes, CanFinish, FirstPass}
+use Rattle.runner.proofs.Ending.{refused-passes}
+
+-- no slot of an opening store was written
+unwritten-at : (s : List ℕ) (o : Opening) → Opens s o → (i : ℕ) → Dec (i < o .tables .slots) → getD (o .store) i emptySlot .writes ≡ 0
+unfolding opened emptySlot
+unwritten-at s o x i (yes h) = ap (λ (y : Slot). y .writes) (x .inside i h)
+unwritten-at s o x i (no h) = ap (λ (y : Slot). y .writes) (x .outside i (omega arith))
 
 -- what a good store sheet leaves
 opening-held : (s : List ℕ) (o : Opening) (t : Opened) (old held : List (List ℕ)) → storeSheet s ≡ ok o
@@ -36,6 +46,7 @@ opening-held s o t old held e p q =
     record {
       opened = p ∙ ap openedOf e;
       grounds = x .ordered;
+      unwritten = λ i. unwritten-at s o x i (decLt i (o .tables .slots));
       store-held = record { size = x .sized; same = q ∙ ap (λ (r : Result ℕ Opening). heldAfter r old) e; formed = λ i. formed-more _ _ (x .formed i) mostSlots (x .small) };
       small = x .small;
     }
@@ -83,23 +94,24 @@ module _ (p : List ℕ) (t : Opened) (j : Judges) (held : List (List ℕ)) (v : 
       let b = taken (c .opening) (c .opening-held) z in
       record { start = c; blocks = b .value; taken = record { sheet = b .same; stand = stand (c .opening) (b .value) (c .opening-held) (b .same) } }
 
-  module _ (budget : ℕ) (old : List ℕ) where
-    pub opened-refused : (v .number ≡ 0 → ⊥) → RunsOpened t j budget p held old old v
-    unfolding runOpened answerOf outputOf _>>=_
-    opened-refused z rules o store rule h d =
+  module _ (budget entries : ℕ) (tables : Compiled) (old : List ℕ) (r : First) where
+    pub opened-refused : (v .number ≡ 0 → ⊥) → Nothing v r → RunsOpened t j budget entries p tables held old old r
+    unfolding runOpened _>>=_
+    opened-refused z n rules o store rule h d =
         let q : sheet o h ≡ refuse v = refused-as (sheet o h) (rw (same-sheet o h) at z) ∙ ap (λ (a : Answer). refuse a) (sym (same-sheet o h)) in
-        rw q (refl, refl)
+        refused-passes _ entries p tables held old v r (rw q) n
 
-    pub opened-room : v .number ≡ 0 → (r : Answer) → (length old ≡ slotWidth * t .slots → ⊥) → r ≡ unplaced 12 → RunsOpened t j budget p held old old r
-    unfolding runOpened answerOf outputOf require _>>=_
-    opened-room z r x q rules o store rule h d =
-        let b = taken o h z in
-        rw (q, b .same, ne-eqb (length old) (slotWidth * o .tables .slots) (rw (slots o h) at x)) (refl, refl)
-
-    pub opened-done : v .number ≡ 0 → (tables : Compiled) → Standing tables → (r : Answer) (out : List ℕ) → length old ≡ slotWidth * t .slots
-        → Finishes t j budget p tables held old out r → RunsOpened t j budget p held old out r
+    pub opened-room : v .number ≡ 0 → (length old ≡ slotWidth * t .slots → ⊥) → (a : Answer) → a ≡ unplaced 12 → Nothing a r
+        → RunsOpened t j budget entries p tables held old old r
     unfolding runOpened require _>>=_
-    opened-done z tables stand r out x f rules o store rule h d =
+    opened-room z x a q n rules o store rule h d =
+        let b = taken o h z in
+        refused-passes _ entries p tables held old a r (rw (q, b .same, ne-eqb (length old) (slotWidth * o .tables .slots) (rw (slots o h) at x))) n
+
+    pub opened-done : v .number ≡ 0 → Standing tables → (out : List ℕ) → length old ≡ slotWidth * t .slots
+        → Finishes t j budget entries p tables held old out r → RunsOpened t j budget entries p tables held old out r
+    unfolding runOpened require _>>=_
+    opened-done z stand out x f rules o store rule h d =
         let b = taken o h z in
         let room : length old ≡ slotWidth * o .tables .slots = rw (slots o h) at x in
         rw (b .same, eq-eqb (length old) (slotWidth * o .tables .slots) room)
@@ -150,28 +162,29 @@ store-taken s n e z = go (storeSheet s) refl (store-opens s)
     go (ok o) q x = record { opening = o; same = q }
     go (refuse d) q x = absurd (omega (arith, rw q at e))
 
--- The same over what the calls of a run answered
-module _ (store p : List ℕ) (rule budget : ℕ) (old : List ℕ) (j : Judges) (e : j ≡ judgesOf (rulesOf rule)) where
-  abbrev Whole : Answer → List ℕ → Type 0
-  Whole r out = ComesTo (run (call store p rule budget old)) old out r
+-- The same over what the calls of a first pass answered
+module _ (store p : List ℕ) (rule budget entries : ℕ) (tables : Compiled) (old : List ℕ) (j : Judges) (e : j ≡ judgesOf (rulesOf rule)) where
+  abbrev Whole : List (List ℕ) → First → List ℕ → Type 0
+  Whole held r out = FirstPass (call store p rule budget (length old) entries) old out tables held r
 
-  pub whole-rule : (r : Answer) → r ≡ unplaced 11 → j .known ≡ false → Whole r old
-  unfolding run answerOf outputOf refusedAs _>>=_
-  whole-rule r q h = rw (q, rules-unknown rule j e h) (refl, refl)
+  pub whole-rule : (held : List (List ℕ)) (a : Answer) (r : First) → a ≡ unplaced 11 → Nothing a r → j .known ≡ false → Whole held r old
+  unfolding run refusedAs _>>=_
+  whole-rule held a r q n h = refused-passes _ entries p tables held old a r (rw (q, rules-unknown rule j e h)) n
 
   module _ (known : j .known ≡ true) where
     k : Known rule j
     k = rules-known rule j e known
 
-    pub whole-budget : (r : Answer) → r ≡ unplaced 11 → mostBudget < budget → Whole r old
-    unfolding runUnder run answerOf outputOf refusedAs require _>>=_
-    whole-budget r q h = rw (q, k .same, lt-leb budget mostBudget h) (refl, refl)
+    pub whole-budget : (held : List (List ℕ)) (a : Answer) (r : First) → a ≡ unplaced 11 → Nothing a r → mostBudget < budget → Whole held r old
+    unfolding runUnder run refusedAs require _>>=_
+    whole-budget held a r q n h = refused-passes _ entries p tables held old a r (rw (q, k .same, lt-leb budget mostBudget h)) n
 
     module _ (h : budget ≤ mostBudget) (t : Opened) (opened : t ≡ openedOf (storeSheet store)) where
-      pub whole-store : (r : Answer) → r ≡ unplaced (t .refusal) → (t .refusal ≡ 0 → ⊥) → Whole r old
-      unfolding runUnder run answerOf outputOf refusedAs require _>>=_
-      whole-store r q z =
-          rw (q, k .same, le-leb budget mostBudget h, store-no (storeSheet store) (t .refusal) (ap (λ (x : Opened). x .refusal) opened) z) (refl, refl)
+      pub whole-store : (held : List (List ℕ)) (a : Answer) (r : First) → a ≡ unplaced (t .refusal) → Nothing a r → (t .refusal ≡ 0 → ⊥) → Whole held r old
+      unfolding runUnder run refusedAs require _>>=_
+      whole-store held a r q n z =
+          refused-passes _ entries p tables held old a r
+          (rw (q, k .same, le-leb budget mostBudget h, store-no (storeSheet store) (t .refusal) (ap (λ (x : Opened). x .refusal) opened) z)) n
 
       module _ (z : t .refusal ≡ 0) (before held : List (List ℕ)) (after : held ≡ heldAfter (storeSheet store) before) where
         s : StoreTaken (storeSheet store)
@@ -183,6 +196,6 @@ module _ (store p : List ℕ) (rule budget : ℕ) (old : List ℕ) (j : Judges) 
         pub whole-start : CanStart t j held
         whole-start = record { rules = k .rules; opening = s .opening; opening-held = opening; judges = k .judges }
 
-        pub whole-done : (r : Answer) (out : List ℕ) → RunsOpened t j budget p held old out r → Whole r out
+        pub whole-done : (r : First) (out : List ℕ) → RunsOpened t j budget entries p tables held old out r → Whole held r out
         unfolding runUnder run refusedAs require _>>=_
         whole-done r out f = rw (k .same, le-leb budget mostBudget h, s .same) (f (k .rules) (s .opening) store rule opening (k .judges))

@@ -3,7 +3,6 @@ use Prim.Native.Nat.{ℕ, zero, suc, _+_, _≤_}
 use mathlib.Core.Path.{_≡_}
 use mathlib.Core.Bool.{true}
 use mathlib.Core.List.{List}
-use lib.ListN.{length}
 use Rattle.store.specs.declared.Value.{Value}
 use Rattle.store.specs.declared.Opened.{Opened}
 use Rattle.store.specs.Result.{ok}
@@ -15,7 +14,7 @@ use Rattle.store.proofs.Bytes.{formed-more}
 use Rattle.programme.specs.Syntax.{LiteralsOf}
 use Rattle.programme.specs.Code.{mostNested}
 use Rattle.programme.specs.Sheet.{Block, kOf, blocksFrom, programmeSheet}
-use Rattle.programme.specs.Rows.{Compiled, Nests, mostRows, mostOperands}
+use Rattle.programme.specs.Rows.{Compiled, Nests}
 use Rattle.programme.specs.Reading.{Compiles}
 use Rattle.programme.proofs.Formed.{block-literals, block-nests}
 use Rattle.programme.proofs.Literals.{exprs-join, literals-join}
@@ -23,7 +22,7 @@ use Rattle.programme.proofs.Shallow.{block-shallow}
 use Rattle.programme.proofs.Fits.{compiled-fits}
 use Rattle.programme.proofs.Starts.{programmed}
 use Rattle.runner.specs.Running.{Formed, SoundExpr, AllSound, BlocksAt}
-use Rattle.runner.specs.Whole.{OpeningHeld}
+use Rattle.runner.specs.Whole.{OpeningHeld, Roomy}
 use Rattle.runner.proofs.Standing.{blocks-stand}
 use Rattle.runner.proofs.Ending.{next-block, none-left}
 
@@ -43,12 +42,6 @@ blocks-sound m p (suc n) i bs few h =
       },
       blocks-sound m p n (i + 1) (x .rest) few (x .after),
     )
-
--- tables of their full lengths
-pub record Roomy (t : Compiled) : Type 0 where
-  pub rows : length (t .rows) ≡ mostRows
-  pub operands : length (t .operands) ≡ mostOperands
-  pub payloads : length (t .payloads) ≡ mostOperands
 
 pub compiled-stands : (t : Opened) (held : List (List ℕ)) (p : List ℕ) (old new : Compiled) → Roomy old → Compiles p (programmeSheet (t .table .n) (t .slots) p) old new
     → (o : Opening) (bs : List Block) → OpeningHeld o t held → programmeSheet (o .tables .order .n) (o .tables .slots) p ≡ ok bs → BlocksAt new 0 0 bs

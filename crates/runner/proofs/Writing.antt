@@ -11,7 +11,7 @@ use Rattle.store.specs.Bytes.{entries, table}
 use Rattle.store.specs.Value.{wellFormed, Slot, assigned, emptySlot}
 use Rattle.store.specs.Sheet.{Tables, ownerOf, mostSlots}
 use Rattle.store.specs.Held.{rowOf, heldOf}
-use Rattle.store.proofs.Fill.{entries-same}
+use Rattle.store.proofs.Fill.{entries-same, table-at}
 use Rattle.calculus.specs.Calculus.{Store, contents, Write, written}
 use Rattle.runner.specs.Held.{StoreHeld}
 
@@ -52,10 +52,10 @@ module _ (w : Tables) (s : Store) (x : Write) (rows : List (List ℕ)) (h : Stor
           (ap (λ (n : ℕ). getD after n emptySlot) e ∙ getD-set-same s i _ emptySlot (omega (arith, h .size))) formed
       go (no e) = formed-as (getD s j emptySlot) (getD-set-other s i j _ emptySlot e) (h .formed j)
 
-  pub put-inside : i < mostSlots → StoreHeld w (written x s) (set rows i (k ∷ p ∷ o ∷ []))
+  pub put-inside : i < mostSlots → StoreHeld w (written x s) (set rows i (k ∷ p ∷ o ∷ (getD (getD rows i []) 3 0 + 1) ∷ []))
   unfolding heldOf rowOf assigned after
   put-inside l =
-      rw (written-at, h .same)
+      rw (written-at, h .same, table-at mostSlots (λ j. rowOf (getD s j emptySlot) (ownerOf w j)) [] i l)
       (record {
         size = length-set s i _ ∙ h .size;
         same =

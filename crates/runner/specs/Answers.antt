@@ -48,12 +48,12 @@ making x = makingBy (eqb (x .refusal) 0) x
 
 -- what comes next: a row; or the step at a row was refused
 pub data Control : Type 0 where
-  On : (row steps : ℕ) → Control
-  Stopped : (number row steps : ℕ) → Control
+  On : (row steps free : ℕ) → Control
+  Stopped : (number row steps free : ℕ) → Control
 
 unfoldable pub controlBy : Bool → Next → Control
-controlBy true x = Control.On (x .row) (x .steps)
-controlBy false x = Control.Stopped (x .refusal) (x .row) (x .steps)
+controlBy true x = Control.On (x .row) (x .steps) (x .free)
+controlBy false x = Control.Stopped (x .refusal) (x .row) (x .steps) (x .free)
 
 abbrev pub control : Next → Control
 control x = controlBy (eqb (x .refusal) 0) x

@@ -1,5 +1,5 @@
 -- What the machine's parts ensure, one relation each: for every setting and store that stands behind their numbers. Assumes nothing.
-use Prim.Native.Nat.{ℕ, _%_, _≤_}
+use Prim.Native.Nat.{ℕ, _+_, _%_, _^_, _≤_, _<_}
 use mathlib.Core.Path.{_≡_}
 use mathlib.Core.Bool.{Bool, true}
 use mathlib.Core.List.{List, [], _∷_}
@@ -131,6 +131,10 @@ abbrev pub JudgesAssignment : Grounds → Operands → ℕ → ℕ → ℕ → M
 JudgesAssignment g t target value branch r =
     (w : Setting) (s : Store) (x y : Expr) (b : Label) → Behind g w s → ExprAt t target x → ExprAt t value y → LabelHeld (w .tables .order) b branch
     → MadeAs (w .tables) r (assignment w b s x y)
+
+-- a slot's count can be raised
+abbrev pub FewWrites : List (List ℕ) → ℕ → Type 0
+FewWrites held slot = getD (getD held slot []) 3 0 + 1 < 2 ^ 64
 
 -- a write is put into its slot's row
 abbrev pub PutsWrite : List (List ℕ) → List (List ℕ) → ℕ → ℕ → ℕ → ℕ → Type 0

@@ -1,13 +1,13 @@
 -- What the machine's numbers mean in the calculus: labels as masks, slots as rows, answers of its parts. Assumes nothing.
-use Prim.Native.Nat.{ℕ, _<_}
+use Prim.Native.Nat.{ℕ, _+_, _≤_, _<_}
 use mathlib.Core.Path.{_≡_}
 use mathlib.Core.Bool.{Bool, true, false}
 use mathlib.Core.List.{List}
-use lib.ListN.{length}
+use lib.ListN.{length, getD}
 use Rattle.lattice.specs.declared.Table.{Table}
 use Rattle.lattice.specs.Order.{Label, mostPrincipals, mask, top}
 use Rattle.store.specs.Result.{Result, ok, refuse}
-use Rattle.store.specs.Value.{wellFormed}
+use Rattle.store.specs.Value.{wellFormed, emptySlot}
 use Rattle.store.specs.Sheet.{Tables, ownerOf, mostSlots}
 use Rattle.store.specs.Held.{Ordered, heldOf}
 use Rattle.calculus.specs.Rules.{RuleSet, accessControl, capability, explicitProvenance, fullProvenance, judgesViews, judgesRegion}
@@ -78,18 +78,24 @@ pub data MadeAs (w : Tables) : Making → Result ℕ Write → Type 0 where
       → x .value .payload ≡ p → ownerOf w i ≡ o → MadeAs w (Making.Write i k p o) (ok x)
   refuses : {n : ℕ} → MadeAs w (Making.Refused n) (refuse n)
 
--- the state behind the held rows and the count
-pub record StateHeld (w : Setting) (rows : List (List ℕ)) (n : ℕ) (s : State) : Type 0 where
+-- no slot was written more often than there were steps
+abbrev pub FewCounts : State → Type 0
+FewCounts s = (i : ℕ) → getD (s .store) i emptySlot .writes ≤ s .steps
+
+-- the state behind the held rows, the count and the free entries, of a journal with `room` entries
+pub record StateHeld (w : Setting) (room : ℕ) (rows : List (List ℕ)) (n free : ℕ) (s : State) : Type 0 where
   pub store : StoreHeld (w .tables) (s .store) rows
   pub steps : s .steps ≡ n
+  pub counts : FewCounts s
+  pub entries : length (s .journal) + free ≡ room
 
 -- how a block that was stopped, and one that ended, means its result
-pub record StopsAs (w : Setting) (rows : List (List ℕ)) (number at steps : ℕ) (whole : Result Stop State) : Type 0 where
+pub record StopsAs (number at steps : ℕ) (whole : Result Stop State) : Type 0 where
   pub state : State
-  pub held : StateHeld w rows steps state
+  pub counted : state .steps ≡ steps
   pub means : whole ≡ refuse (stopAt at state number)
 
-pub record DoneAs (w : Setting) (rows : List (List ℕ)) (steps : ℕ) (whole : Result Stop State) : Type 0 where
+pub record DoneAs (w : Setting) (room : ℕ) (rows : List (List ℕ)) (steps free : ℕ) (whole : Result Stop State) : Type 0 where
   pub state : State
-  pub held : StateHeld w rows steps state
+  pub held : StateHeld w room rows steps free state
   pub means : whole ≡ ok state

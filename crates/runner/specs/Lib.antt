@@ -5,4 +5,5 @@ pub mod Evaluating
 pub mod Machine
 pub mod Playing
 pub mod Contracts
+pub mod Journal
 pub mod Whole

@@ -14,7 +14,7 @@ use Rattle.programme.specs.Syntax.{Cmd}
 use Rattle.programme.specs.Sheet.{Block, kOf, codeAt, headerAt}
 use Rattle.programme.specs.Rows.{Compiled, size}
 use Rattle.calculus.specs.Rules.{RuleSet, judgesViews, judgesRegion}
-use Rattle.calculus.specs.Calculus.{Setting, State, Stop, exec}
+use Rattle.calculus.specs.Calculus.{Limits, Setting, State, Stop, exec}
 use Rattle.calculus.specs.Blocks.{Halt, runBlocks}
 use Rattle.runner.specs.declared.rules.Judges.{Judges}
 use Rattle.runner.specs.declared.rules.Terms.{Terms}
@@ -23,7 +23,7 @@ use Rattle.runner.specs.declared.machine.Ran.the-variants.{Done, Stopped
 use Rattle.runner.specs.declared.blocks.Place.{Place}
 use Rattle.runner.specs.declared.blocks.Ended.{Ended}
 use Rattle.runner.specs.declared.blocks.Ended.the-variants.{Finished, Halted}
-use Rattle.runner.specs.Held.{judgesLabels, judgesBranch, Serves, StoreHeld, StateHeld, StopsAs, DoneAs}
+use Rattle.runner.specs.Held.{judgesLabels, judgesBranch, Serves, StoreHeld, FewCounts, StateHeld, StopsAs, DoneAs}
 use Rattle.runner.specs.Running.{BlockAt, BlocksAt}
 
 -- what a rule set judges; nothing where there is none
@@ -58,26 +58,26 @@ played tables order judges budget = record { tables = tables; order = order; jud
 
 -- how it ended, where its end row is `last`
 unfoldable pub RanAs : Setting → ℕ → List (List ℕ) → Ran → Result Stop State → Type 0
-RanAs w last held (Done row steps) whole = (row ≡ last) × DoneAs w held steps whole
-RanAs w last held (Stopped number row at steps) whole = StopsAs w held number at steps whole
+RanAs w last held (Done row steps free) whole = (row ≡ last) × DoneAs w (w .limits .entries) held steps free whole
+RanAs w last held (Stopped number row at steps) whole = StopsAs number at steps whole
 
 -- a setting stands behind what a block is played by
 pub record BlockUnder (w : Setting) (g : Played) (h : Header) : Type 0 where
   pub under : Under w (g .order) (g .judges) h
-  pub budget : w .budget ≡ g .budget
+  pub budget : w .limits .budget ≡ g .budget
 
 -- a block is played, from its first row on
-abbrev pub PlaysBlock : Played → Header → ℕ → ℕ → List (List ℕ) → List (List ℕ) → Ran → Type 0
-PlaysBlock g h row steps held held′ r =
-    (w : Setting) (s : State) (o : ℕ) (c : Cmd) → BlockUnder w g h → StateHeld w held steps s → BlockAt (g .tables) row o c
+abbrev pub PlaysBlock : Played → Header → ℕ → ℕ → ℕ → List (List ℕ) → List (List ℕ) → Ran → Type 0
+PlaysBlock g h row steps free held held′ r =
+    (w : Setting) (s : State) (o : ℕ) (c : Cmd) → BlockUnder w g h → StateHeld w (w .limits .entries) held steps free s → BlockAt (g .tables) row o c
     → RanAs w (row + size c) held′ r (exec w c (top (w .tables .order)) s)
 
 -- some block can be
-pub record CanPlay (g : Played) (h : Header) (row steps : ℕ) (held : List (List ℕ)) : Type 0 where
+pub record CanPlay (g : Played) (h : Header) (row steps free : ℕ) (held : List (List ℕ)) : Type 0 where
   pub setting : Setting
   pub under : BlockUnder setting g h
   pub state : State
-  pub state-held : StateHeld setting held steps state
+  pub state-held : StateHeld setting (setting .limits .entries) held steps free state
   pub operand : ℕ
   pub command : Cmd
   pub stands : BlockAt (g .tables) row operand command
@@ -97,11 +97,12 @@ pub record AllUnder (w : Tables) (rules : RuleSet) (g : Played) : Type 0 where
   pub judges : g .judges ≡ judgesOf (ok rules)
 
 -- where a run opens
-abbrev pub openingPlace : Place
-openingPlace = record { block = 0; row = 0; steps = 0 }
+abbrev pub openingPlace : ℕ → Place
+openingPlace entries = record { block = 0; row = 0; steps = 0; free = entries }
 
--- the blocks from a place on, up to the k-th: played from the state behind the held rows they come to `whole`
-pub record LeftToPlay (w : Tables) (rules : RuleSet) (g : Played) (p : List ℕ) (k : ℕ) (from : Place) (held : List (List ℕ)) (whole : Result Halt State) : Type 0 where
+-- the blocks from a place on, up to the k-th: played from the state behind the held rows, within limits, they come to `whole`
+pub record LeftToPlay (w : Tables) (rules : RuleSet) (l : Limits) (g : Played) (p : List ℕ) (k : ℕ) (from : Place) (held : List (List ℕ)) (whole : Result Halt State) : Type 0 where
+  pub budget : l .budget ≡ g .budget
   pub rest : List Block
   pub count : from .block + length rest ≡ k
   pub headers : HeadersAt (w .order .n) p (from .block) rest
@@ -110,26 +111,31 @@ pub record LeftToPlay (w : Tables) (rules : RuleSet) (g : Played) (p : List ℕ)
   pub state : State
   pub store-held : StoreHeld w (state .store) held
   pub steps : state .steps ≡ from .steps
+  pub counts : FewCounts state
+  pub entries : length (state .journal) + from .free ≡ l .entries
   pub kept : from .steps ≤ g .budget
-  pub means : runBlocks w rules (g .budget) (from .block) rest state ≡ whole
+  pub means : runBlocks w rules l (from .block) rest state ≡ whole
 
 -- how a run of blocks ended
-pub data EndedAs (w : Tables) (held : List (List ℕ)) : Ended → Result Halt State → Type 0 where
-  finished : {n : ℕ} {s : State} → StoreHeld w (s .store) held → s .steps ≡ n → EndedAs w held (Finished n) (ok s)
+pub data EndedAs (w : Tables) (l : Limits) (held : List (List ℕ)) : Ended → Result Halt State → Type 0 where
+  finished : {n free : ℕ} {s : State} → StoreHeld w (s .store) held → s .steps ≡ n → length (s .journal) + free ≡ l .entries
+      → EndedAs w l held (Finished n free) (ok s)
   halted : {n b o t : ℕ} {h : Halt} → h .stop .number ≡ n → h .block ≡ b → h .stop .offset ≡ o → h .stop .state .steps ≡ t
-      → EndedAs w held (Halted n b o t) (refuse h)
+      → EndedAs w l held (Halted n b o t) (refuse h)
 
 -- the blocks from a place on are played
 abbrev pub PlaysOn : Played → List ℕ → ℕ → Place → List (List ℕ) → List (List ℕ) → Ended → Type 0
 PlaysOn g p k from held held′ r =
-    (w : Tables) (rules : RuleSet) (whole : Result Halt State) → AllUnder w rules g → LeftToPlay w rules g p k from held whole → EndedAs w held′ r whole
+    (w : Tables) (rules : RuleSet) (l : Limits) (whole : Result Halt State) → AllUnder w rules g → LeftToPlay w rules l g p k from held whole
+    → EndedAs w l held′ r whole
 
 -- some can be
 pub record CanPlayOn (g : Played) (p : List ℕ) (k : ℕ) (from : Place) (held : List (List ℕ)) : Type 0 where
   pub tables : Tables
   pub rules : RuleSet
   pub under : AllUnder tables rules g
+  pub limits : Limits
   pub whole : Result Halt State
-  pub left : LeftToPlay tables rules g p k from held whole
+  pub left : LeftToPlay tables rules limits g p k from held whole
   pub count : k ≡ kOf p
   pub sheet : codeAt k ≤ length p

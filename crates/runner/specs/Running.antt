@@ -15,7 +15,7 @@ use Rattle.programme.specs.Syntax.{Expr, Cmd, LiteralsOf, Exprs}
 use Rattle.programme.specs.Code.{mostNested, mostDeep}
 use Rattle.programme.specs.Rows.{Compiled, assignRow, guardRow, jumpRow, endRow, guardKind, operandsOf, headsOf, payloadsOf, cmdOperands, rowsOf, size, Nests, Shallow, mostRows, mostOperands}
 use Rattle.programme.specs.Sheet.{Block}
-use Rattle.calculus.specs.Calculus.{Setting, State, Stop, Judged, Write, judge, assignment, step, counted, performed}
+use Rattle.calculus.specs.Calculus.{Setting, State, Stop, Judged, Write, judge, step, attempt, counted, performed}
 
 abbrev pub rowAt : Compiled → ℕ → List ℕ
 rowAt t r = getD (t .rows) r []
@@ -97,8 +97,8 @@ module _ (w : Setting) (t : Compiled) (last : ℕ) where
     ends : {r : ℕ} {l : List Label} {s : State} {whole : Result Stop State} → r ≡ last → EndAt t r → whole ≡ ok s → Runs r l s whole
     assigns : {r : ℕ} {l : List Label} {s : State} {whole : Result Stop State} (depth at : ℕ) (x v : Expr) (k : Write → Result Stop State)
         → AssignAt t r depth at x v
-        → whole ≡ (step w at s (assignment w (getD l depth 0) (s .store) x v) >>= k)
-        → ((y : Write) → step w at s (assignment w (getD l depth 0) (s .store) x v) ≡ ok y → Runs (r + 1) l (performed y s) (k y))
+        → whole ≡ (step w at s (attempt w (getD l depth 0) s x v) >>= k)
+        → ((y : Write) → step w at s (attempt w (getD l depth 0) s x v) ≡ ok y → Runs (r + 1) l (performed w at y s) (k y))
         → Runs r l s whole
     guards : {r : ℕ} {l : List Label} {s : State} {whole : Result Stop State} (depth at : ℕ) (g : Expr) (other : ℕ) (k : Judged → Result Stop State)
         → GuardAt t r depth at g other

@@ -2,38 +2,56 @@
 use Prim.Native.Nat.{ℕ, _*_, _≤_}
 use mathlib.Core.Path.{_≡_}
 use mathlib.Core.List.{List}
-use lib.ListN.{length}
+use lib.ListN.{length, getD}
 use Rattle.store.specs.declared.Answer.{Answer}
 use Rattle.store.specs.declared.Opened.{Opened}
 use Rattle.store.specs.Result.{Result, ok}
-use Rattle.store.specs.Value.{slotWidth}
+use Rattle.store.specs.Value.{slotWidth, emptySlot}
 use Rattle.store.specs.Sheet.{Opening, mostSlots}
 use Rattle.store.specs.Held.{Ordered, openedOf}
 use Rattle.programme.specs.Sheet.{Block, programmeSheet}
-use Rattle.programme.specs.Rows.{Compiled}
+use Rattle.programme.specs.Rows.{Compiled, mostRows, mostOperands}
 use Rattle.calculus.specs.Rules.{RuleSet}
-use Rattle.calculus.specs.Run.{Finished, call, runProgramme, runOpened, answerOf, outputOf}
+use Rattle.calculus.specs.Calculus.{limits}
+use Rattle.calculus.specs.Run.{Call, call, Finished, runProgramme, runOpened, run, answerOf, outputOf, entriesOf}
 use Rattle.runner.specs.declared.rules.Judges.{Judges}
+use Rattle.runner.specs.declared.journal.First.{First}
 use Rattle.runner.specs.Held.{StoreHeld}
 use Rattle.runner.specs.Running.{BlocksAt}
 use Rattle.runner.specs.Playing.{judgesOf}
+use Rattle.runner.specs.Journal.{replayed, opens, Left}
 
--- what a run comes to: its answer, and its output where that held `old`
-abbrev pub ComesTo : Result Answer Finished → List ℕ → List ℕ → Answer → Type 0
-ComesTo x old out r = (r ≡ answerOf x) × (out ≡ outputOf x old)
+-- What a first pass comes to: the run's answer, its output where that held `old`, and the writes that a second pass is to make over the opening store
+pub record Passes (x : Result Answer Finished) (room : ℕ) (p : List ℕ) (t : Compiled) (held : List (List ℕ)) (old out : List ℕ) (r : First) : Type 0 where
+  pub answered : r .answer ≡ answerOf x
+  pub written : out ≡ outputOf x old
+  pub many : r .writes ≡ length (entriesOf x)
+  pub fits : r .writes ≤ room
+  pub left : Left (replayed p t r) (opens held) (entriesOf x)
+
+-- of a whole call
+abbrev pub FirstPass : Call → List ℕ → List ℕ → Compiled → List (List ℕ) → First → Type 0
+FirstPass c old out t held r = Passes (run c) (c .entries) (c .programme) t held old out r
 
 -- a store sheet that was opened
 pub record OpeningHeld (o : Opening) (t : Opened) (held : List (List ℕ)) : Type 0 where
   pub opened : t ≡ openedOf (ok o)
   pub grounds : Ordered (o .tables)
   pub store-held : StoreHeld (o .tables) (o .store) held
+  pub unwritten : (i : ℕ) → getD (o .store) i emptySlot .writes ≡ 0
   pub small : o .tables .slots ≤ mostSlots
 
+-- tables of their full lengths
+pub record Roomy (t : Compiled) : Type 0 where
+  pub rows : length (t .rows) ≡ mostRows
+  pub operands : length (t .operands) ≡ mostOperands
+  pub payloads : length (t .payloads) ≡ mostOperands
+
 -- a run over it, with the rule set that `j` tells of, is the definitions'
-abbrev pub RunsOpened : Opened → Judges → ℕ → List ℕ → List (List ℕ) → List ℕ → List ℕ → Answer → Type 0
-RunsOpened t j budget p held old out r =
+abbrev pub RunsOpened : Opened → Judges → ℕ → ℕ → List ℕ → Compiled → List (List ℕ) → List ℕ → List ℕ → First → Type 0
+RunsOpened t j budget entries p tables held old out r =
     (rules : RuleSet) (o : Opening) (store : List ℕ) (rule : ℕ) → OpeningHeld o t held → j ≡ judgesOf (ok rules)
-    → ComesTo (runOpened rules o (call store p rule budget old)) old out r
+    → Passes (runOpened rules o (call store p rule budget (length old) entries)) entries p tables held old out r
 
 -- some store was opened
 pub record CanStart (t : Opened) (j : Judges) (held : List (List ℕ)) : Type 0 where
@@ -48,10 +66,10 @@ pub record TakenIn (o : Opening) (p : List ℕ) (t : Compiled) (bs : List Block)
   pub stand : BlocksAt t 0 0 bs
 
 -- playing its blocks, with room for the slots, is the definitions'
-abbrev pub Finishes : Opened → Judges → ℕ → List ℕ → Compiled → List (List ℕ) → List ℕ → List ℕ → Answer → Type 0
-Finishes t j budget p tables held old out r =
+abbrev pub Finishes : Opened → Judges → ℕ → ℕ → List ℕ → Compiled → List (List ℕ) → List ℕ → List ℕ → First → Type 0
+Finishes t j budget entries p tables held old out r =
     (rules : RuleSet) (o : Opening) (bs : List Block) → OpeningHeld o t held → j ≡ judgesOf (ok rules) → TakenIn o p tables bs
-    → length old ≡ slotWidth * o .tables .slots → ComesTo (runProgramme rules budget o bs) old out r
+    → length old ≡ slotWidth * o .tables .slots → Passes (runProgramme rules (limits budget entries) o bs) entries p tables held old out r
 
 -- some programme was
 pub record CanFinish (t : Opened) (j : Judges) (p : List ℕ) (tables : Compiled) (held : List (List ℕ)) : Type 0 where

@@ -15,16 +15,20 @@ use programme::Rows;
 use programme::Sizes;
 use store::Held;
 
-// Where a run of blocks stands: the block that is next, its first row, and the steps done.
+// Where a run of blocks stands: the block that is next, its first row, the steps done, and the entries that are free.
 pub struct Place {
     pub block: usize,
     pub row: usize,
     pub steps: u32,
+    pub free: usize,
 }
 
 // How a run of blocks ended.
 pub enum Ended {
-    Finished(u32),
+    Finished {
+        steps: u32,
+        free: usize,
+    },
     Halted {
         number: u32,
         block: usize,
@@ -33,14 +37,15 @@ pub enum Ended {
     },
 }
 
-// Where a run opens: at the first block's first row, with no step done.
-pub(crate) fn opening() -> Place
-    ensures { λ r. ⌜ r ≡ openingPlace ⌝ }
+// Where a run opens: at the first block's first row, with no step done and every entry free.
+pub(crate) fn opening(entries: usize) -> Place
+    ensures { λ r. ⌜ r ≡ openingPlace entries ⌝ }
 {
     Place {
         block: 0,
         row: 0,
         steps: 0,
+        free: entries,
     }
 }
 
@@ -56,11 +61,12 @@ fn play_block(
     budget: u32,
     row: usize,
     steps: u32,
+    free: usize,
 ) -> Ran
-    requires { ⌜ CanPlay (played (tablesOf (now rows) (now operands) (now payloads)) table judges budget) header row steps (now held) ⌝ }
+    requires { ⌜ CanPlay (played (tablesOf (now rows) (now operands) (now payloads)) table judges budget) header row steps free (now held) ⌝ }
     ensures { λ r. ⌜
         PlaysBlock (played (tablesOf (now (rows .entry)) (now (operands .entry)) (now (payloads .entry))) table judges budget)
-        header row steps (now (held .entry)) (now (held .exit)) r
+        header row steps free (now (held .entry)) (now (held .exit)) r
         ⌝ }
 {
     let terms = rules::terms_of(table, judges, header);
@@ -78,6 +84,7 @@ fn play_block(
         budget,
         row,
         steps,
+        free,
     )
 }
 
@@ -103,6 +110,7 @@ pub(crate) fn play_blocks(
     let mut block = from.block;
     let mut row = from.row;
     let mut steps = from.steps;
+    let mut free = from.free;
     while block < k {
         let at = Sizes::WIDTH + block;
         let header = programme::header_of(sheet[at], sheet[at + Sizes::FLOORS * k]);
@@ -117,14 +125,17 @@ pub(crate) fn play_blocks(
             budget,
             row,
             steps,
+            free,
         ) {
             Ran::Done {
                 row: last,
                 steps: done,
+                free: left,
             } => {
                 block += 1;
                 row = last + 1;
                 steps = done;
+                free = left;
             }
             Ran::Stopped {
                 number,
@@ -141,5 +152,5 @@ pub(crate) fn play_blocks(
             }
         }
     }
-    Ended::Finished(steps)
+    Ended::Finished { steps, free }
 }

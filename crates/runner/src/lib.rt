@@ -1,9 +1,11 @@
-// The runner: one call, from its arguments and sheets to its answer and output. Definitions in specs/, laws in proofs/.
+// The runner: one call, from its arguments and sheets to its answer, output and journal. Definitions in specs/, laws in proofs/.
 ghost use mathlib.Core.Path.{_≡_};
+ghost use lib.ListN.{length};
 ghost use Rattle.programme.specs.Rows.{tablesOf};
-ghost use Rattle.calculus.specs.Run.{call, answer, output};
-ghost use Rattle.runner.specs.Whole.{RunsOpened, CanStart, Finishes, CanFinish};
+ghost use Rattle.calculus.specs.Run.{call, answer, output, journal as journalAfter};
+ghost use Rattle.runner.specs.Whole.{Roomy, RunsOpened, CanStart, Finishes, CanFinish, FirstPass};
 use blocks::Ended;
+use journal::First;
 use programme::Operand;
 use programme::Operands;
 use programme::Payloads;
@@ -11,11 +13,13 @@ use programme::Row;
 use programme::Rows;
 use rules::Judges;
 use store::Answer;
+use store::Entry;
 use store::Held;
 use store::Opened;
 
 mod blocks;
 mod expressions;
+mod journal;
 mod machine;
 mod rules;
 mod slots;
@@ -30,12 +34,13 @@ fn finish(
     opened: Opened,
     judges: Judges,
     budget: u32,
+    entries: usize,
     held: &mut Held,
     out: &mut [u8],
-) -> Answer
+) -> First
     requires { ⌜ CanFinish opened judges (now programme) (tablesOf (now rows) (now operands) (now payloads)) (now held) ⌝ }
     ensures { λ r. ⌜
-        Finishes opened judges budget (now (programme .entry))
+        Finishes opened judges budget entries (now (programme .entry))
         (tablesOf (now (rows .entry)) (now (operands .entry)) (now (payloads .entry)))
         (now (held .entry)) (now (out .entry)) (now (out .exit)) r
         ⌝ }
@@ -43,7 +48,7 @@ fn finish(
     let k = store::number_at(programme, 0, 1) as usize;
     let slots = opened.slots;
     let table = opened.table;
-    let from = blocks::opening();
+    let from = blocks::opening(entries);
     match blocks::play_blocks(
         programme,
         k,
@@ -56,13 +61,20 @@ fn finish(
         budget,
         from,
     ) {
-        Ended::Finished(steps) => {
+        Ended::Finished { steps, free } => {
             store::write_store(held, slots, out);
-            Answer {
+            let answer = Answer {
                 number: Answer::FINISHED,
                 block: k,
                 offset: 0,
                 steps,
+            };
+            First {
+                answer,
+                writes: entries - free,
+                table,
+                judges,
+                budget,
             }
         }
         Ended::Halted {
@@ -70,80 +82,150 @@ fn finish(
             block,
             offset,
             steps,
-        } => Answer {
-            number,
-            block,
-            offset,
-            steps,
-        },
+        } => {
+            let answer = Answer {
+                number,
+                block,
+                offset,
+                steps,
+            };
+            journal::refused(answer, judges, budget)
+        }
     }
 }
 
-// A run over an opened store: the programme sheet (6 to 10), compiled as it is checked; the output's length (12); then the blocks.
+// A run over an opened store: the programme sheet (6 to 10), compiled as it is checked; the output's length (12); then the blocks, over a copy
+// of the store.
 fn run_opened(
     programme: &[u8],
     opened: Opened,
     judges: Judges,
     budget: u32,
-    held: &mut Held,
+    entries: usize,
+    rows: &mut Rows,
+    operands: &mut Operands,
+    payloads: &mut Payloads,
+    held: &Held,
     out: &mut [u8],
-) -> Answer
-    requires { ⌜ CanStart opened judges (now held) ⌝ }
-    ensures { λ r. ⌜ RunsOpened opened judges budget (now (programme .entry)) (now (held .entry)) (now (out .entry)) (now (out .exit)) r ⌝ }
+) -> First
+    requires { ⌜ CanStart opened judges (now held) × Roomy (tablesOf (now rows) (now operands) (now payloads)) ⌝ }
+    ensures { λ r. ⌜
+        RunsOpened opened judges budget entries (now (programme .entry))
+        (tablesOf (now (rows .exit)) (now (operands .exit)) (now (payloads .exit)))
+        (now (held .entry)) (now (out .entry)) (now (out .exit)) r
+        ⌝ }
 {
     let slots = opened.slots;
     let table = opened.table;
-    let mut rows = [[0u16; Row::WIDTH]; Row::MOST];
-    let mut operands = [[0u8; Operand::WIDTH]; Operand::MOST];
-    let mut payloads = [0u64; Operand::MOST];
-    let compiled = programme::compile(
-        programme,
-        table.n,
-        slots,
-        &mut rows,
-        &mut operands,
-        &mut payloads,
-    );
+    let compiled = programme::compile(programme, table.n, slots, rows, operands, payloads);
     if compiled.number != Answer::FINISHED {
-        return compiled;
+        return journal::refused(compiled, judges, budget);
     }
     if out.len() != Opened::SLOT_WIDTH * slots {
-        return store::unplaced(Answer::OUTPUT_LENGTH);
+        return journal::refused(store::unplaced(Answer::OUTPUT_LENGTH), judges, budget);
     }
+    let mut work = *held;
     finish(
         programme,
-        &rows,
-        &operands,
-        &payloads,
+        rows,
+        operands,
+        payloads,
         opened,
         judges,
         budget,
-        held,
+        entries,
+        &mut work,
         out,
     )
 }
 
-// One run: judges the arguments (11), opens the store sheet (1 to 5), and runs the programme. The answer and every byte of the output
-// are the definitions', for every input.
-pub fn run(store: &[u8], programme: &[u8], rule: u32, budget: u32, out: &mut [u8]) -> Answer
+// The first pass: judges the arguments (11), opens the store sheet (1 to 5), and runs the programme. It leaves the opening store and the compiled
+// tables for the second.
+fn first_pass<'s, 'p, 'o, 'a>(
+    store: &'s [u8],
+    programme: &'p [u8],
+    rule: u32,
+    budget: u32,
+    entries: usize,
+    out: &'o mut [u8],
+    rows: &'a mut Rows,
+    operands: &'a mut Operands,
+    payloads: &'a mut Payloads,
+    held: &'a mut Held,
+) -> First
+    requires { ⌜ Roomy (tablesOf (now rows) (now operands) (now payloads)) ⌝ }
     ensures { λ r. ⌜
-        (r ≡ answer (call (now (store .entry)) (now (programme .entry)) rule budget (now (out .entry))))
-        × (now (out .exit) ≡ output (call (now (store .entry)) (now (programme .entry)) rule budget (now (out .entry))) (now (out .entry)))
+        FirstPass (call (now (store .entry)) (now (programme .entry)) rule budget (length (now (out .entry))) entries)
+        (now (out .entry)) (now (out .exit)) (tablesOf (now (rows .exit)) (now (operands .exit)) (now (payloads .exit))) (now (held .exit)) r
         ⌝ }
 {
     let judges = rules::judges_of(rule);
     let known = judges.known;
     if !known {
-        return store::unplaced(Answer::ARGUMENTS);
+        return journal::refused(store::unplaced(Answer::ARGUMENTS), judges, budget);
     }
     if Judges::MOST_BUDGET < budget {
-        return store::unplaced(Answer::ARGUMENTS);
+        return journal::refused(store::unplaced(Answer::ARGUMENTS), judges, budget);
     }
-    let mut held = [[0u64; Opened::ROW]; Opened::MOST_SLOTS];
-    let opened = store::open_store(store, &mut held);
+    let opened = store::open_store(store, held);
     let refusal = opened.refusal;
     if refusal != 0 {
-        return store::unplaced(refusal);
+        return journal::refused(store::unplaced(refusal), judges, budget);
     }
-    run_opened(programme, opened, judges, budget, &mut held, out)
+    run_opened(
+        programme,
+        opened,
+        judges,
+        budget,
+        entries,
+        rows,
+        operands,
+        payloads,
+        held,
+        out,
+    )
+}
+
+// One run. The answer, every byte of the output and every entry of the journal are the definitions', for every input.
+pub fn run<'s, 'p, 'o, 'j>(
+    store: &'s [u8],
+    programme: &'p [u8],
+    rule: u32,
+    budget: u32,
+    out: &'o mut [u8],
+    journal: &'j mut [Entry],
+) -> Answer
+    ensures { λ r. ⌜
+        (r ≡ answer (call (now (store .entry)) (now (programme .entry)) rule budget (length (now (out .entry))) (length (now (journal .entry)))))
+        × (now (out .exit) ≡ output (call (now (store .entry)) (now (programme .entry)) rule budget (length (now (out .entry))) (length (now (journal .entry)))) (now (out .entry)))
+        × (now (journal .exit) ≡ journalAfter (call (now (store .entry)) (now (programme .entry)) rule budget (length (now (out .entry))) (length (now (journal .entry)))) (now (journal .entry)))
+        ⌝ }
+{
+    let entries = journal.len();
+    let mut rows = [[0u16; Row::WIDTH]; Row::MOST];
+    let mut operands = [[0u8; Operand::WIDTH]; Operand::MOST];
+    let mut payloads = [0u64; Operand::MOST];
+    let mut held = [[0u64; Opened::ROW]; Opened::MOST_SLOTS];
+    let first = first_pass(
+        store,
+        programme,
+        rule,
+        budget,
+        entries,
+        out,
+        &mut rows,
+        &mut operands,
+        &mut payloads,
+        &mut held,
+    );
+    journal::replay(
+        journal,
+        programme,
+        &rows,
+        &operands,
+        &payloads,
+        &mut held,
+        first,
+    );
+    first.answer
 }

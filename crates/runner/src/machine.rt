@@ -15,11 +15,12 @@ use programme::Rows;
 use store::Answer;
 use store::Held;
 
-// The row that comes next; or the number of the refusal of the step at a row.
+// The row that comes next; or the number of the refusal of the step at a row. `free` counts the entries that are free.
 pub struct Next {
     pub refusal: u32,
     pub steps: u32,
     pub row: usize,
+    pub free: usize,
 }
 
 // How a run from a row ended: at a block's end row; or the step at a row was refused, its command's offset being `at`.
@@ -27,6 +28,7 @@ pub enum Ran {
     Done {
         row: usize,
         steps: u32,
+        free: usize,
     },
     Stopped {
         number: u32,
@@ -37,13 +39,13 @@ pub enum Ran {
 }
 
 // A number of a row; that it fits is known of an argument's type, not of an array's element.
-fn wide16(x: u16) -> usize
+pub(crate) fn wide16(x: u16) -> usize
     ensures { λ r. ⌜ r ≡ x ⌝ }
 {
     x as usize
 }
 
-// An assignment: it is judged under its depth's branch label, and written.
+// An assignment: there must be a free entry for it (18); it is judged under its depth's branch label, and written.
 fn take_assign(
     rows: &Rows,
     operands: &Operands,
@@ -55,11 +57,20 @@ fn take_assign(
     budget: u32,
     row: usize,
     steps: u32,
+    free: usize,
 ) -> Next
-    requires { ⌜ CanStep assignKind (given terms (now masks) (tablesOf (now rows) (now operands) (now payloads)) budget) (place row steps (now labels) (now held)) ⌝ }
+    requires { ⌜ CanStep assignKind (given terms (now masks) (tablesOf (now rows) (now operands) (now payloads)) budget) (place row steps free (now labels) (now held)) ⌝ }
     ensures { λ r. ⌜ Moved (given terms (now (masks .entry)) (tablesOf (now (rows .entry)) (now (operands .entry)) (now (payloads .entry))) budget)
-        (place row steps (now (labels .entry)) (now (held .entry))) (now (labels .entry)) (now (held .exit)) (control r) ⌝ }
+        (place row steps free (now (labels .entry)) (now (held .entry))) (now (labels .entry)) (now (held .exit)) (control r) ⌝ }
 {
+    if free == 0 {
+        return Next {
+            refusal: Answer::JOURNAL_FULL,
+            steps,
+            row,
+            free,
+        };
+    }
     let r = rows[row];
     let depth = wide16(r[Row::DEPTH]);
     let target = wide16(r[Row::FIRST]);
@@ -81,6 +92,7 @@ fn take_assign(
             refusal: number,
             steps,
             row,
+            free,
         };
     }
     slots::put(held, made.slot, made.kind, made.payload, made.owner);
@@ -88,6 +100,7 @@ fn take_assign(
         refusal: 0,
         steps: steps + 1,
         row: row + 1,
+        free: free - 1,
     }
 }
 
@@ -103,10 +116,11 @@ fn take_guard(
     budget: u32,
     row: usize,
     steps: u32,
+    free: usize,
 ) -> Next
-    requires { ⌜ CanStep guardKind (given terms (now masks) (tablesOf (now rows) (now operands) (now payloads)) budget) (place row steps (now labels) (now held)) ⌝ }
+    requires { ⌜ CanStep guardKind (given terms (now masks) (tablesOf (now rows) (now operands) (now payloads)) budget) (place row steps free (now labels) (now held)) ⌝ }
     ensures { λ r. ⌜ Moved (given terms (now (masks .entry)) (tablesOf (now (rows .entry)) (now (operands .entry)) (now (payloads .entry))) budget)
-        (place row steps (now (labels .entry)) (now (held .entry))) (now (labels .exit)) (now (held .entry)) (control r) ⌝ }
+        (place row steps free (now (labels .entry)) (now (held .entry))) (now (labels .exit)) (now (held .entry)) (control r) ⌝ }
 {
     let r = rows[row];
     let depth = wide16(r[Row::DEPTH]);
@@ -118,6 +132,7 @@ fn take_guard(
             refusal: number,
             steps,
             row,
+            free,
         };
     }
     let inside = depth + 1;
@@ -128,6 +143,7 @@ fn take_guard(
             refusal: 0,
             steps: steps + 1,
             row: row + 1,
+            free,
         };
     }
     // (Read again, and not held since the first reading: the passing way needs no register for it.)
@@ -137,6 +153,7 @@ fn take_guard(
         refusal: 0,
         steps: steps + 1,
         row: other,
+        free,
     }
 }
 
@@ -152,16 +169,18 @@ fn take_step(
     budget: u32,
     row: usize,
     steps: u32,
+    free: usize,
 ) -> Next
-    requires { ⌜ CanTake (given terms (now masks) (tablesOf (now rows) (now operands) (now payloads)) budget) (place row steps (now labels) (now held)) ⌝ }
+    requires { ⌜ CanTake (given terms (now masks) (tablesOf (now rows) (now operands) (now payloads)) budget) (place row steps free (now labels) (now held)) ⌝ }
     ensures { λ r. ⌜ Moved (given terms (now (masks .entry)) (tablesOf (now (rows .entry)) (now (operands .entry)) (now (payloads .entry))) budget)
-        (place row steps (now (labels .entry)) (now (held .entry))) (now (labels .exit)) (now (held .exit)) (control r) ⌝ }
+        (place row steps free (now (labels .entry)) (now (held .entry))) (now (labels .exit)) (now (held .exit)) (control r) ⌝ }
 {
     if steps == budget {
         return Next {
             refusal: Answer::BUDGET_SPENT,
             steps,
             row,
+            free,
         };
     }
     let r = rows[row];
@@ -177,6 +196,7 @@ fn take_step(
             budget,
             row,
             steps,
+            free,
         )
     } else {
         take_guard(
@@ -190,6 +210,7 @@ fn take_step(
             budget,
             row,
             steps,
+            free,
         )
     }
 }
@@ -206,10 +227,11 @@ fn advance(
     budget: u32,
     row: usize,
     steps: u32,
+    free: usize,
 ) -> Next
-    requires { ⌜ CanMove (given terms (now masks) (tablesOf (now rows) (now operands) (now payloads)) budget) (place row steps (now labels) (now held)) ⌝ }
+    requires { ⌜ CanMove (given terms (now masks) (tablesOf (now rows) (now operands) (now payloads)) budget) (place row steps free (now labels) (now held)) ⌝ }
     ensures { λ r. ⌜ Moved (given terms (now (masks .entry)) (tablesOf (now (rows .entry)) (now (operands .entry)) (now (payloads .entry))) budget)
-        (place row steps (now (labels .entry)) (now (held .entry))) (now (labels .exit)) (now (held .exit)) (control r) ⌝ }
+        (place row steps free (now (labels .entry)) (now (held .entry))) (now (labels .exit)) (now (held .exit)) (control r) ⌝ }
 {
     let r = rows[row];
     if r[Row::KIND] == Row::JUMP {
@@ -218,6 +240,7 @@ fn advance(
             refusal: 0,
             steps,
             row: target,
+            free,
         };
     }
     take_step(
@@ -231,11 +254,12 @@ fn advance(
         budget,
         row,
         steps,
+        free,
     )
 }
 
-// Runs from a row on, with the labels in force there, to its block's end or to the first step that is refused. Where the budget is spent, the
-// run goes on from the row that it stopped at, with the labels and the store as they are then.
+// Runs from a row on, with the labels in force there, to its block's end or to the first step that is refused. Where the budget is spent or no
+// entry is free, the run goes on from the row that it stopped at, with the labels and the store as they are then.
 pub(crate) fn go(
     rows: &Rows,
     operands: &Operands,
@@ -247,20 +271,23 @@ pub(crate) fn go(
     budget: u32,
     row: usize,
     steps: u32,
+    free: usize,
 ) -> Ran
-    requires { ⌜ CanGo (given terms (now masks) (tablesOf (now rows) (now operands) (now payloads)) budget) (place row steps (now labels) (now held)) ⌝ }
+    requires { ⌜ CanGo (given terms (now masks) (tablesOf (now rows) (now operands) (now payloads)) budget) (place row steps free (now labels) (now held)) ⌝ }
     ensures { λ r. ⌜ Went (given terms (now (masks .entry)) (tablesOf (now (rows .entry)) (now (operands .entry)) (now (payloads .entry))) budget)
-        (place row steps (now (labels .entry)) (now (held .entry))) (now (labels .exit)) (now (held .exit)) r ⌝ }
+        (place row steps free (now (labels .entry)) (now (held .entry))) (now (labels .exit)) (now (held .exit)) r ⌝ }
 {
     let mut next = Next {
         refusal: 0,
         steps,
         row,
+        free,
     };
     loop {
         let number = next.refusal;
         let here = next.row;
         let done = next.steps;
+        let left = next.free;
         let r = rows[here];
         if number != 0 {
             let at = wide16(r[Row::OFFSET]);
@@ -275,6 +302,7 @@ pub(crate) fn go(
             return Ran::Done {
                 row: here,
                 steps: done,
+                free: left,
             };
         }
         next = advance(
@@ -288,6 +316,7 @@ pub(crate) fn go(
             budget,
             here,
             done,
+            left,
         );
     }
 }

@@ -1,9 +1,9 @@
-// The held store: a row for each slot, of its kind, payload and owner.
+// The held store: a row for each slot, of its kind, payload, owner and count of writes.
 ghost use mathlib.Core.Path.{_≡_};
 ghost use Prim.Native.Nat.{_<_};
 ghost use Rattle.store.specs.Value.{writeView};
 ghost use Rattle.store.specs.Sheet.{mostSlots};
-ghost use Rattle.runner.specs.Contracts.{grounds, CanJudge, RowRead, Admits, PutsWrite};
+ghost use Rattle.runner.specs.Contracts.{grounds, CanJudge, RowRead, Admits, FewWrites, PutsWrite};
 use super::rules::Terms;
 use lattice::Masks;
 use store::Held;
@@ -37,11 +37,13 @@ pub(crate) fn admitted(held: &Held, masks: &Masks, terms: Terms, kind: u64, payl
     lattice::has_bit(terms.region, owner)
 }
 
-// Puts what an assignment writes into its slot's row.
+// Puts what an assignment writes into its slot's row, and counts the write.
 pub(crate) fn put(held: &mut Held, slot: u64, kind: u64, payload: u64, owner: u64)
-    requires { ⌜ slot < mostSlots ⌝ }
+    requires { ⌜ (slot < mostSlots) × FewWrites (now held) slot ⌝ }
     ensures { λ r. ⌜ PutsWrite (now (held .entry)) (now (held .exit)) slot kind payload owner ⌝ }
 {
     let i = slot as usize;
-    held[i] = [kind, payload, owner];
+    let row = held[i];
+    let writes = row[Opened::ROW_WRITES];
+    held[i] = [kind, payload, owner, writes + 1];
 }

@@ -16,7 +16,7 @@ use Rattle.lattice.specs.Tests.{_and_, _or_, every}
 use Rattle.lattice.proofs.Tests.{and-l, and-r, and-of, or-at, or-l, or-r, every-at}
 use Rattle.store.specs.Bytes.{Bytes, numberAt, numberBytes, part}
 use Rattle.store.specs.declared.Value.{Value}
-use Rattle.store.specs.Value.{payloadWidth, valueWidth, readView, writeView, viewed, wellFormed, valueAt, valueBytes, Slot, emptySlot, slotWidth, slotBytes}
+use Rattle.store.specs.Value.{payloadWidth, valueWidth, countWidth, readView, writeView, viewed, wellFormed, valueAt, valueBytes, Slot, emptySlot, slotWidth, slotBytes}
 use Rattle.store.specs.Sheet.{slotsBytes}
 
 -- that a list is one of bytes, by a test that computes
@@ -38,7 +38,9 @@ length-value v = ap suc (length-number payloadWidth (v .payload))
 
 pub length-slot : (s : Slot) → length (slotBytes s) ≡ slotWidth
 unfolding slotBytes
-length-slot s = length-value (s .value)
+length-slot s =
+    length-append (valueBytes (s .value)) (numberBytes countWidth (s .writes))
+    ∙ omega (arith, length-value (s .value), length-number countWidth (s .writes))
 
 pub length-slots : (store : List Slot) (i n : ℕ) → length (slotsBytes store i n) ≡ slotWidth * n
 unfolding slotsBytes
@@ -83,7 +85,7 @@ value-again v =
     ∙ number-again payloadWidth (v .payload))
 
 -- a value's bytes, cut out
-number-part : (width n : ℕ) (s : List ℕ) (at i : ℕ) → i + width ≤ n → numberAt width (part s at n) i ≡ numberAt width s (at + i)
+pub number-part : (width n : ℕ) (s : List ℕ) (at i : ℕ) → i + width ≤ n → numberAt width (part s at n) i ≡ numberAt width s (at + i)
 unfolding numberAt
 number-part zero n s at i h = refl
 number-part (suc width) n s at i h =

@@ -14,14 +14,15 @@ use Rattle.lattice.specs.Tests.{_or_}
 use Rattle.lattice.specs.Order.{good}
 use Rattle.lattice.proofs.Tests.{and-l, and-r}
 use Rattle.store.specs.Result.{Result, inTurn}
-use Rattle.store.specs.Bytes.{Bytes, part, filled}
-use Rattle.store.specs.Value.{payloadWidth, wellFormed, valueAt, Slot, opened, emptySlot, slotWidth, slotBytes}
+use Rattle.store.specs.Bytes.{Bytes, numberBytes, part, filled}
+use Rattle.store.specs.declared.Value.{Value}
+use Rattle.store.specs.Value.{payloadWidth, valueWidth, countWidth, wellFormed, valueAt, valueBytes, Slot, opened, emptySlot, slotWidth, slotBytes}
 use Rattle.store.specs.Sheet.{Opening, ownerOf, mostSlots, nOf, mOf, ownerAt, slotValueAt, orderOf, tablesOf, openingOf, Form, storeForm, valueGood, slotChecked, bodyChecked, sheetChecked, sizesAllowed, storeSheet, slotsBytes}
 use Rattle.store.specs.Held.{Ordered}
 use Rattle.store.proofs.Result.{Post, Positive, post-ok, post-map, post-require, post-bind}
 use Rattle.store.proofs.Fill.{pick, length-filled, entry-at, filled-at}
 use Rattle.store.proofs.Numbers.{number-lt}
-use Rattle.store.proofs.Bytes.{length-slot, value-read}
+use Rattle.store.proofs.Bytes.{length-value, length-slot, value-read}
 
 -- an entry of an array that was not filled
 filled-past : {A : Type 0} (size n : ℕ) (f : ℕ → A) (d : A) (i : ℕ) → n ≤ i → getD (filled size n f d) i d ≡ d
@@ -116,12 +117,17 @@ store-opens s = post-bind _ _ _ _ _ (sheet-checked storeForm s) (λ _ c. post-ok
 
 -- Values in bytes
 
+-- a slot's bytes begin with its value's
+value-first : (v : Value) (n : ℕ) → take valueWidth (valueBytes v ++ numberBytes countWidth n) ≡ valueBytes v
+value-first v n = take-at (valueBytes v) (numberBytes countWidth n) valueWidth (length-value v)
+
 -- values read from bytes are known by their slots in the output
 pub values-one : (s s′ : List ℕ) (at at′ : ℕ) → Bytes s → Bytes s′
     → slotBytes (opened (valueAt s at)) ≡ slotBytes (opened (valueAt s′ at′)) → valueAt s at ≡ valueAt s′ at′
 unfolding slotBytes opened valueAt
 values-one s s′ at at′ h h′ e =
-    sym (value-read (valueAt s at) (h at) (number-lt s h payloadWidth (at + 1))) ∙ ap (λ (l : List ℕ). valueAt l 0) e
+    sym (value-read (valueAt s at) (h at) (number-lt s h payloadWidth (at + 1)))
+    ∙ ap (λ (l : List ℕ). valueAt l 0) (sym (value-first (valueAt s at) 0) ∙ ap (take valueWidth) e ∙ value-first (valueAt s′ at′) 0)
     ∙ value-read (valueAt s′ at′) (h′ at′) (number-lt s′ h′ payloadWidth (at′ + 1))
 
 -- The output

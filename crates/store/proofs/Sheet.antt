@@ -78,7 +78,7 @@ refused-held (refuse e) old h = refl
 
 -- the integer 0 of principal 0, as a row
 abbrev pub emptyRow : List ℕ
-emptyRow = 0 ∷ 0 ∷ 0 ∷ []
+emptyRow = 0 ∷ 0 ∷ 0 ∷ 0 ∷ []
 
 row-pick : (s : List ℕ) (k : ℕ) (b : Bool)
     → pick b (rowAt s k) emptyRow ≡ rowOf (pick b (opened (slotValueAt s k)) emptySlot) (pick b (ownerAt s k) 0)

@@ -7,7 +7,7 @@ use native.Mathlib.Omega.{arith}
 use lib.ListN.{length, getD, set, length-append, drop-of-length-le}
 use lib.Seq.{sets, sets-eq}
 use Rattle.store.specs.Bytes.{numberBytes}
-use Rattle.store.specs.Value.{payloadWidth, slotWidth}
+use Rattle.store.specs.Value.{payloadWidth, countWidth, slotWidth}
 use Rattle.store.specs.Held.{rowBytes, rowsBytes}
 use Rattle.store.proofs.Bytes.{length-number}
 
@@ -23,7 +23,9 @@ number-bytes-done l r at x p = rw p refl
 
 pub length-row : (row : List ℕ) → length (rowBytes row) ≡ slotWidth
 unfolding rowBytes
-length-row row = ap suc (length-number payloadWidth (getD row 1 0))
+length-row row =
+    ap suc (length-append (numberBytes payloadWidth (getD row 1 0)) (numberBytes countWidth (getD row 3 0)))
+    ∙ omega (arith, length-number payloadWidth (getD row 1 0), length-number countWidth (getD row 3 0))
 
 pub length-rows : (held : List (List ℕ)) (i n : ℕ) → length (rowsBytes held i n) ≡ slotWidth * n
 unfolding rowsBytes
@@ -40,6 +42,17 @@ sets-append l i (v ∷ a) b =
   where
     e : suc i + length a ≡ i + suc (length a)
     e = omega arith
+
+-- a row: its kind, its payload, its count
+pub row-written : (l : List ℕ) (row : List ℕ) (at at₁ at₉ : ℕ) → at₁ ≡ at + 1 → at₉ ≡ at + 9
+    → sets (sets (set l at (getD row 0 0 % 256)) at₁ (numberBytes payloadWidth (getD row 1 0))) at₉ (numberBytes countWidth (getD row 3 0))
+    ≡ sets l at (rowBytes row)
+unfolding rowBytes
+row-written l row at at₁ at₉ p q =
+    let first = getD row 0 0 % 256 ∷ numberBytes payloadWidth (getD row 1 0) in
+    let e : at₁ ≡ suc at = omega arith in
+    let f : at₉ ≡ at + length first = omega (arith, length-number payloadWidth (getD row 1 0)) in
+    rw (e, f) (sym (sets-append l at first (numberBytes countWidth (getD row 3 0))))
 
 -- the loop over the rows
 pub rows-step : (held : List (List ℕ)) (l : List ℕ) (i r r′ at at′ : ℕ) → r ≡ suc r′ → at′ ≡ at + slotWidth

@@ -9,7 +9,7 @@ use Rattle.lattice.specs.Order.{Label, mostPrincipals, good}
 use Rattle.store.specs.declared.Opened.{Opened}
 use Rattle.store.specs.Result.{Result, ok, refuse}
 use Rattle.store.specs.Bytes.{numberBytes, table}
-use Rattle.store.specs.Value.{payloadWidth, Slot, opened, emptySlot, slotWidth}
+use Rattle.store.specs.Value.{payloadWidth, countWidth, Slot, opened, emptySlot, slotWidth}
 use Rattle.store.specs.Sheet.{Tables, Opening, ownerOf, mostSlots, nOf, mOf, ownerAt, slotValueAt}
 
 -- n and m are a sheet's, and within their limits
@@ -30,9 +30,9 @@ unfoldable pub refusalOf : {A : Type 0} → Result ℕ A → ℕ
 refusalOf (ok a) = 0
 refusalOf (refuse e) = e
 
--- A slot is held as a row of numbers: kind, payload, owner.
+-- A slot is held as a row of numbers: kind, payload, owner, count of writes.
 unfoldable pub rowOf : Slot → Label → List ℕ
-rowOf s owner = s .value .kind ∷ s .value .payload ∷ owner ∷ []
+rowOf s owner = s .value .kind ∷ s .value .payload ∷ owner ∷ s .writes ∷ []
 
 -- slot i of a sheet
 unfoldable pub rowAt : List ℕ → ℕ → List ℕ
@@ -54,7 +54,7 @@ heldAfter (refuse e) old = old
 
 -- a row's slot in the output
 unfoldable pub rowBytes : List ℕ → List ℕ
-rowBytes row = getD row 0 0 % 256 ∷ numberBytes payloadWidth (getD row 1 0)
+rowBytes row = (getD row 0 0 % 256 ∷ numberBytes payloadWidth (getD row 1 0)) ++ numberBytes countWidth (getD row 3 0)
 
 -- n rows from the i-th on
 unfoldable pub rowsBytes : List (List ℕ) → ℕ → ℕ → List ℕ

@@ -1,7 +1,7 @@
 -- Values and slots, in sheets, code and output. Assumes nothing.
 use Prim.Native.Nat.{ℕ, suc, _+_, _%_}
 use mathlib.Core.Bool.{Bool}
-use mathlib.Core.List.{List, _∷_}
+use mathlib.Core.List.{List, _∷_, _++_}
 use lib.ListN.{getD}
 use lib.Dec.{ltb, eqb}
 use Rattle.lattice.specs.Tests.{_and_, _or_}
@@ -60,25 +60,29 @@ valueAt s at = record { kind = getD s at 0; payload = numberAt payloadWidth s (a
 unfoldable pub valueBytes : Value → List ℕ
 valueBytes v = v .kind % 256 ∷ numberBytes payloadWidth (v .payload)
 
--- what a slot holds
+-- A slot: what it holds, and how often it was written. "Each slot's record gains a count of its writes" (document 02, N7)
 pub record Slot : Type 0 where
   pub value : Value
+  pub writes : ℕ
 
--- a slot as the store sheet fills it
+-- a slot as the store sheet fills it: its count is "0 at opening"
 unfoldable pub opened : Value → Slot
-opened v = record { value = v }
+opened v = record { value = v; writes = 0 }
 
 -- a slot after v was assigned to it
 unfoldable pub assigned : Value → Slot → Slot
-assigned v s = record { value = v }
+assigned v s = record { value = v; writes = s .writes + 1 }
 
 -- "Slots from m up to 255 are held as integer 0"
 unfoldable pub emptySlot : Slot
 emptySlot = opened (record { kind = integer; payload = 0 })
 
--- a slot in the output
+-- A slot in the output: "4 bytes of it after each value, so a slot takes 13 bytes" (document 02, N7)
+abbrev pub countWidth : ℕ
+countWidth = 4
+
 abbrev pub slotWidth : ℕ
-slotWidth = valueWidth
+slotWidth = valueWidth + countWidth
 
 unfoldable pub slotBytes : Slot → List ℕ
-slotBytes s = valueBytes (s .value)
+slotBytes s = valueBytes (s .value) ++ numberBytes countWidth (s .writes)

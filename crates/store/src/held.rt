@@ -19,7 +19,7 @@ use super::sheets::order_of;
 use super::values::value_at;
 use lattice::Table;
 
-// Slot i of a sheet as a row: kind, payload, owner.
+// Slot i of a sheet as a row: kind, payload, owner, and no writes.
 fn row_at(s: &[u8], n: usize, m: usize, i: usize) -> SlotRow
     requires { ⌜ Sized (now s) n m × (i < m) ⌝ }
     ensures { λ r. ⌜ r ≡ rowAt (now (s .entry)) i ⌝ }
@@ -27,7 +27,7 @@ fn row_at(s: &[u8], n: usize, m: usize, i: usize) -> SlotRow
     let owners = Opened::SIZES + Opened::MASK * n;
     let v = value_at(s, owners + m + Value::WIDTH * i);
     let owner = byte_at(s, owners, i);
-    [wide(v.kind), v.payload, owner]
+    [wide(v.kind), v.payload, owner, 0]
 }
 
 // Fills the held store: 256 equal rows, the integer 0, and then the sheet's own.
@@ -80,6 +80,12 @@ fn put_row(out: &mut [u8], at: usize, row: SlotRow)
 {
     out[at] = (row[Opened::ROW_KIND] % 256) as u8;
     put_number(out, at + 1, Value::PAYLOAD, row[Opened::ROW_PAYLOAD]);
+    put_number(
+        out,
+        at + Value::WIDTH,
+        Opened::COUNT,
+        row[Opened::ROW_WRITES],
+    );
 }
 
 // Writes the first m rows of a held store: as many as are held and as the output has room for. What stands after them in the output stays.

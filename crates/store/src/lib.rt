@@ -23,6 +23,7 @@ ghost use Rattle.store.specs.Result.{unplaced};
 use lattice::Table;
 
 // What a call answers: 0 or the number of a refusal, and its place.
+#[repr(C)]
 pub struct Answer {
     pub number: u32,
     pub block: usize,
@@ -67,6 +68,8 @@ impl Answer {
     pub const PROVENANCE_TOO_LOW: u32 = 16;
 
     pub const BUDGET_SPENT: u32 = 17;
+
+    pub const JOURNAL_FULL: u32 = 18;
 }
 
 // A refusal without a place.
@@ -81,6 +84,7 @@ pub fn unplaced(number: u32) -> Answer
     }
 }
 
+#[repr(C)]
 pub struct Value {
     pub kind: u8,
     pub payload: u64,
@@ -108,6 +112,16 @@ impl Value {
     pub const LARGEST: u64 = Value::SIGN - 1 + Value::SIGN;
 }
 
+// An entry of the journal: which block wrote which slot, at which offset, what the slot held before and what it held then.
+#[repr(C)]
+pub struct Entry {
+    pub block: usize,
+    pub offset: usize,
+    pub slot: usize,
+    pub old: Value,
+    pub new: Value,
+}
+
 // What a store sheet opens: its tables, or the number of its refusal.
 pub struct Opened {
     pub refusal: u32,
@@ -118,8 +132,10 @@ pub struct Opened {
 impl Opened {
     // The most slots that a store may have.
     pub const MOST_SLOTS: usize = 256;
-    // The bytes of a slot in the output.
-    pub const SLOT_WIDTH: usize = Value::WIDTH;
+    // The bytes of a slot's count, and of a slot in the output.
+    pub const COUNT: usize = 4;
+
+    pub const SLOT_WIDTH: usize = Value::WIDTH + Opened::COUNT;
     // The most bytes that an output may have.
     pub const MOST_OUTPUT: usize = Opened::SLOT_WIDTH * Opened::MOST_SLOTS;
     // The bytes of the sizes at a sheet's start.
@@ -127,13 +143,15 @@ impl Opened {
     // The bytes of a mask.
     pub const MASK: usize = 4;
     // The numbers of a row, and where each stands.
-    pub const ROW: usize = 3;
+    pub const ROW: usize = 4;
 
     pub const ROW_KIND: usize = 0;
 
     pub const ROW_PAYLOAD: usize = 1;
 
     pub const ROW_OWNER: usize = 2;
+
+    pub const ROW_WRITES: usize = 3;
 }
 
 // A slot as the code holds it.

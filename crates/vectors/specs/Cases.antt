@@ -1,6 +1,6 @@
--- A case of the list that the program plays. It starts with 19 bytes: the mark `case` (4 bytes), the length of its name (1), the rule (4),
--- the budget (4), and the lengths of output, store sheet and programme sheet (2 each), lowest byte first. Then stand the name and the two
--- sheets. Assumes nothing.
+-- A case of the list that the program plays. It starts with 21 bytes: the mark `case` (4 bytes), the length of its name (1), the rule (4),
+-- the budget (4), and the lengths of output, journal, store sheet and programme sheet (2 each), lowest byte first. The journal's length is
+-- its number of entries. Then stand the name and the two sheets. Assumes nothing.
 use Prim.Native.Nat.{ℕ, _+_, _*_, _≤_}
 use mathlib.Core.Bool.{Bool}
 use mathlib.Core.List.{List}
@@ -8,6 +8,7 @@ use lib.Dec.{eqb}
 use Rattle.store.specs.Bytes.{numberAt}
 use Rattle.store.specs.Value.{slotWidth}
 use Rattle.store.specs.Sheet.{mostSlots}
+use Rattle.printing.specs.Printed.{mostEntries}
 use Rattle.vectors.specs.declared.Head.{Head}
 
 -- the bytes of `case`, as a number
@@ -24,8 +25,9 @@ headOf s =
       rule = numberAt 4 s 5;
       budget = numberAt 4 s 9;
       output = numberAt 2 s 13;
-      store = numberAt 2 s 15;
-      programme = numberAt 2 s 17;
+      journal = numberAt 2 s 15;
+      store = numberAt 2 s 17;
+      programme = numberAt 2 s 19;
     }
 
 -- a slot more than any end store has
@@ -35,6 +37,6 @@ mostOutput = slotWidth * (mostSlots + 1)
 abbrev pub mostBody : ℕ
 mostBody = 32768
 
--- there is room for the output, and for the name and the sheets
+-- there is room for the output, for the journal, and for the name and the sheets
 abbrev pub Fits : Head → Type 0
-Fits h = (h .output ≤ mostOutput) × (h .name + h .store + h .programme ≤ mostBody)
+Fits h = (h .output ≤ mostOutput) × (h .journal ≤ mostEntries) × (h .name + h .store + h .programme ≤ mostBody)

@@ -6,6 +6,7 @@ ghost use mathlib.Core.Bool.{true, false};
 ghost use Prim.Native.Nat.{_+_};
 ghost use lib.ListN.{length};
 ghost use Rattle.vectors.specs.Cases.{headOf, marked, mostOutput, mostBody, Fits};
+use printing::Input;
 use printing::Text;
 use store::Answer;
 use store::Opened;
@@ -16,13 +17,14 @@ struct Head {
     rule: u64,
     budget: u64,
     output: usize,
+    journal: usize,
     store: usize,
     programme: usize,
 }
 
 impl Head {
     // The bytes of a head, and of the number of cases.
-    const WIDTH: usize = 19;
+    const WIDTH: usize = 21;
 
     const COUNT: usize = 2;
     // The word that each case starts with.
@@ -97,7 +99,7 @@ fn run_case(h: Head, body: &[u8], out: &mut [u8], before: &[u8])
     // Four bytes hold no more, so nothing is cut.
     let rule = (h.rule % 4294967296) as u32;
     let budget = (h.budget % 4294967296) as u32;
-    let a = runner::run(&body[name..cut], &body[cut..], rule, budget, out);
+    let a = printing::run_lent(&body[name..cut], &body[cut..], rule, budget, h.journal, out);
     io::write_all(1, &body[..name]);
     print_answer(a);
     print_output(a.number, out, before);
@@ -128,19 +130,21 @@ fn head_of(s: &[u8; Head::WIDTH]) -> Head
     let rule = store::number_at(s, 5, 4);
     let budget = store::number_at(s, 9, 4);
     let output = store::number_at(s, 13, 2) as usize;
-    let first = store::number_at(s, 15, 2) as usize;
-    let second = store::number_at(s, 17, 2) as usize;
+    let journal = store::number_at(s, 15, 2) as usize;
+    let first = store::number_at(s, 17, 2) as usize;
+    let second = store::number_at(s, 19, 2) as usize;
     Head {
         name,
         rule,
         budget,
         output,
+        journal,
         store: first,
         programme: second,
     }
 }
 
-// Whether there is room for a case's output, and for its name and sheets.
+// Whether there is room for a case's output, for its journal, and for its name and sheets.
 fn fits(h: Head) -> bool
     ensures { λ r. ⌜ (r ≡ true → Fits h) × (Fits h → r ≡ true) ⌝ }
 {
@@ -148,6 +152,9 @@ fn fits(h: Head) -> bool
     let sheet = h.store;
     let programme = h.programme;
     if Head::MOST_OUTPUT < h.output {
+        return false;
+    }
+    if Input::ENTRIES < h.journal {
         return false;
     }
     if Head::MOST_BODY < name {

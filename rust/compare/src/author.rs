@@ -6,12 +6,14 @@
 //! finishes under every rule, with less some step is forbidden.
 
 mod bounds;
+mod branches;
 mod endorsements;
 mod expressions;
 mod large;
 mod loops;
 
 pub use self::endorsements::any_byte;
+pub use self::large::adding_up;
 
 use crate::code::{Block, Command, Endorsement};
 use crate::expressions::Expression;
@@ -193,22 +195,6 @@ impl<'a> Author<'a> {
         self.played(Command::Assign { target, value })
     }
 
-    fn branching(&mut self, depth: usize, branch: u8) -> Command {
-        let guard = self.guard();
-        let inner = self.inside(branch, &guard);
-        let then_part = self.tried(depth, inner);
-        let else_part = self.tried(depth, inner);
-        self.played(Command::if_else(guard, then_part, else_part))
-    }
-
-    /// A command that fits here; what it did is forgotten.
-    fn tried(&mut self, depth: usize, branch: u8) -> Command {
-        let before = self.stage.values.clone();
-        let command = self.command(depth, branch);
-        self.stage.values = before;
-        command
-    }
-
     fn played(&mut self, command: Command) -> Command {
         self.stage.play(&command);
         command
@@ -238,22 +224,22 @@ fn slots_where(values: &[Value], test: impl Fn(u8, Value) -> bool) -> Vec<u8> {
 #[cfg(test)]
 mod tests {
     use super::*;
+    use crate::ample::plain_run;
     use crate::code::programme_sheet;
-    use crate::second;
+    use crate::tally::NUMBERS;
 
     const RULES: [u32; 4] = [0, 1, 2, 3];
 
     /// How often each number is the answer under a rule to programmes that
     /// were written with this care.
-    fn answers(care: Care, rule: u32) -> [u32; 18] {
-        let mut counts = [0; 18];
+    fn answers(care: Care, rule: u32) -> [u32; NUMBERS] {
+        let mut counts = [0; NUMBERS];
         for case in 0..1_000 {
             let mut random = Random::of_case(11, case);
             let store = Store::random(&mut random);
             let blocks = Author::new(&mut random, &store, care).programme();
             let sheet = programme_sheet(&blocks).bytes;
-            let mut output = vec![0; store.table.slots() * Value::WIDTH];
-            let answer = second::run(&store.bytes(), &sheet, rule, 2_000, &mut output);
+            let answer = plain_run(&store.bytes(), &sheet, rule).second().answer;
             counts[answer.number as usize] += 1;
         }
         counts

@@ -2,6 +2,32 @@
 
 use std::fmt::{self, Display, Formatter};
 
+use crate::ample::AMPLE;
+use crate::answers::Answer;
+use crate::random::Random;
+
+pub const MOST_BUDGET: u32 = 1_000_000;
+
+/// A budget around the steps that the run does when it has enough. One that
+/// has no end gets a large budget only now and then, since it takes long.
+pub fn random_budget(random: &mut Random, ample: Answer) -> u32 {
+    let steps = ample.steps;
+    let large = if ample.number == 17 && !random.one_in(200) {
+        AMPLE
+    } else {
+        MOST_BUDGET
+    };
+    match random.below(20) {
+        0..=5 => steps,
+        6 | 7 => steps.saturating_sub(1),
+        8..=13 => steps + 1,
+        14 => 0,
+        15 => random.between(0, steps as usize) as u32,
+        16..=18 => large,
+        _ => random.pick(&[MOST_BUDGET + 1, u32::MAX, 1 << 24]),
+    }
+}
+
 /// How many runs had which budget beside the steps that they do when they have
 /// enough. Runs that are refused before their first step don't count.
 #[derive(Debug, Clone, Copy, Default)]

@@ -1,10 +1,13 @@
 //! Calls that both runners get, and what is seen of each.
 
-use std::fmt::{self, Display, Formatter};
+mod difference;
+
+pub use self::difference::Difference;
 
 use crate::answers::Answer;
+use crate::journals::{self, walk, Journal, Words};
 use crate::layout::Layout;
-use crate::values::Value;
+use crate::outputs::Record;
 use crate::{proved, second};
 
 /// One call, with all its bytes.
@@ -32,19 +35,26 @@ pub struct Run {
     pub rule: u32,
     pub budget: u32,
     pub output_length: usize,
+    /// The entries of the journal that is lent.
+    pub journal_length: usize,
 }
 
-/// What can be seen of a call: its answer, and every byte of the output.
+/// What can be seen of a call: its answer, every byte of the output, and the
+/// journal.
 #[derive(Debug, Clone, PartialEq, Eq)]
 pub struct Seen {
     pub answer: Answer,
     output: Lent,
+    pub journal: Journal,
 }
 
 impl Seen {
     fn answer(answer: Answer) -> Seen {
-        let output = Lent::new(0);
-        Seen { answer, output }
+        Seen {
+            answer,
+            output: Lent::new(0),
+            journal: Journal::none(),
+        }
     }
 
     fn number(number: u32) -> Seen {
@@ -54,6 +64,24 @@ impl Seen {
     pub fn output(&self) -> &[u8] {
         let end = self.output.bytes.len() - Lent::MARGIN;
         &self.output.bytes[Lent::MARGIN..end]
+    }
+
+    /// What goes against the documents in what this run left, in words.
+    fn fault(&self, run: &Run) -> Option<String> {
+        let journal = &self.journal;
+        let words = match self.answer.number {
+            0 => match walk(run, self.output(), &journal.filled) {
+                Err(fault) => return Some(fault.to_string()),
+                Ok(()) if journal.strays.is_empty() => return None,
+                Ok(()) => "entries past the writes are not as lent",
+            },
+            _ if !journal.is_untouched() => "refused, and the journal is not as lent",
+            _ if self.output != Lent::new(run.output_length) => {
+                "refused, and the output is not as lent"
+            }
+            _ => return None,
+        };
+        Some(words.to_string())
     }
 }
 
@@ -65,8 +93,8 @@ struct Lent {
 }
 
 impl Lent {
-    /// Room for a value too many.
-    const MARGIN: usize = 2 * Value::WIDTH;
+    /// Room for a slot too many.
+    const MARGIN: usize = 2 * Record::WIDTH;
 
     fn new(length: usize) -> Lent {
         let pattern = |place: usize| 0xA0 ^ (place % 0x1F) as u8;
@@ -81,20 +109,19 @@ impl Lent {
     }
 }
 
-/// A way to run: store, programme, rule, budget and output.
-type Runner = fn(&[u8], &[u8], u32, u32, &mut [u8]) -> Answer;
+/// A way to run: the run, with the output and the journal that are lent.
+pub type Runner = fn(&Run, &mut [u8], &mut [Words]) -> Answer;
 
 impl Run {
     fn by(&self, runner: Runner) -> Seen {
         let mut output = Lent::new(self.output_length);
-        let answer = runner(
-            &self.store,
-            &self.programme,
-            self.rule,
-            self.budget,
-            output.lend(),
-        );
-        Seen { answer, output }
+        let mut journal = journals::Lent::new(self.journal_length);
+        let answer = runner(self, output.lend(), journal.lend());
+        Seen {
+            answer,
+            output,
+            journal: journal.seen(),
+        }
     }
 
     pub fn second(&self) -> Seen {
@@ -103,20 +130,38 @@ impl Run {
 }
 
 impl Call {
-    /// What both runners do, if it is the same.
+    /// What both runners do, if it is the same and as it should be.
     pub fn compare(&self) -> Result<Seen, Box<Difference>> {
-        let (proved, second) = (self.proved(), self.second());
-        if proved == second {
+        self.compare_to(proved::run)
+    }
+
+    /// The same with another runner in place of the proved one.
+    pub fn compare_to(&self, runner: Runner) -> Result<Seen, Box<Difference>> {
+        let (proved, second) = (self.proved(runner), self.second());
+        let fault = match proved.answer == second.answer {
+            true => self.fault(&proved).or_else(|| self.fault(&second)),
+            false => None,
+        };
+        if proved == second && fault.is_none() {
             return Ok(proved);
         }
         Err(Box::new(Difference {
             call: self.clone(),
+            runner,
             proved,
             second,
+            fault,
         }))
     }
 
-    fn proved(&self) -> Seen {
+    fn fault(&self, seen: &Seen) -> Option<String> {
+        match self {
+            Call::Run(run) => seen.fault(run),
+            _ => None,
+        }
+    }
+
+    fn proved(&self, runner: Runner) -> Seen {
         match self {
             Call::CheckStore { sheet } => Seen::number(proved::check_store(sheet)),
             Call::CheckTable { sheet } => Seen::number(proved::check_table(sheet)),
@@ -125,7 +170,7 @@ impl Call {
                 principals,
                 slots,
             } => Seen::answer(proved::check_programme(sheet, *principals, *slots)),
-            Call::Run(run) => run.by(proved::run),
+            Call::Run(run) => run.by(runner),
         }
     }
 
@@ -193,71 +238,6 @@ impl Call {
         (0..layout.blocks)
             .map(|block| self.with_programme(layout.without(programme, block)))
             .collect()
-    }
-}
-
-/// A call on which the two runners differ.
-#[derive(Debug, Clone)]
-pub struct Difference {
-    call: Call,
-    proved: Seen,
-    second: Seen,
-}
-
-impl Difference {
-    /// The same difference, or another, with as few blocks as still show one.
-    pub fn shrunk(self) -> Difference {
-        let smaller = self.call.smaller();
-        let found = smaller.iter().find_map(|call| call.compare().err());
-        match found {
-            Some(difference) => difference.shrunk(),
-            None => self,
-        }
-    }
-}
-
-impl Display for Difference {
-    fn fmt(&self, out: &mut Formatter) -> fmt::Result {
-        write!(out, "{}", self.call)?;
-        writeln!(out, "proved runner: {}", self.proved)?;
-        write!(out, "second runner: {}", self.second)
-    }
-}
-
-impl Display for Call {
-    fn fmt(&self, out: &mut Formatter) -> fmt::Result {
-        match self {
-            Call::CheckStore { sheet } => writeln!(out, "check of the store {}", hex(sheet)),
-            Call::CheckTable { sheet } => writeln!(out, "check of the table {}", hex(sheet)),
-            Call::CheckProgramme {
-                sheet,
-                principals,
-                slots,
-            } => {
-                writeln!(out, "check of the programme {}", hex(sheet))?;
-                writeln!(out, "for {principals} principals and {slots} slots")
-            }
-            Call::Run(run) => {
-                writeln!(out, "run over the store {}", hex(&run.store))?;
-                writeln!(out, "of the programme {}", hex(&run.programme))?;
-                let (rule, budget, length) = (run.rule, run.budget, run.output_length);
-                writeln!(
-                    out,
-                    "rule {rule}, budget {budget}, output of {length} bytes"
-                )
-            }
-        }
-    }
-}
-
-impl Display for Seen {
-    fn fmt(&self, out: &mut Formatter) -> fmt::Result {
-        let (answer, margin) = (self.answer, Lent::MARGIN);
-        let bytes = hex(&self.output.bytes);
-        write!(
-            out,
-            "{answer}, output and {margin} bytes on either side {bytes}"
-        )
     }
 }
 

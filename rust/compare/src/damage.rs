@@ -213,10 +213,12 @@ fn reshape_code(random: &mut Random, sheet: &Sheet, bytes: &mut Vec<u8>) {
 #[cfg(test)]
 mod tests {
     use super::*;
+    use crate::ample::plain_run;
     use crate::author::{Author, Care};
     use crate::code::programme_sheet;
     use crate::sheets::Store;
-    use second_runner::{check_store, run};
+    use crate::tally::NUMBERS;
+    use second_runner::check_store;
 
     fn store_and_programme(case: u64) -> (Store, Sheet) {
         let mut random = Random::of_case(7, case);
@@ -238,12 +240,11 @@ mod tests {
 
     #[test]
     fn damaged_programmes_are_mostly_refused() {
-        let mut seen = [0; 18];
+        let mut seen = [0; NUMBERS];
         for case in 0..3_000 {
             let (store, programme) = store_and_programme(case);
             let bytes = damaged(&mut Random::of_case(9, case), &programme);
-            let mut output = vec![0; store.table.slots() * Value::WIDTH];
-            let answer = run(&store.bytes(), &bytes, 0, 100, &mut output);
+            let answer = plain_run(&store.bytes(), &bytes, 0).second().answer;
             seen[answer.number as usize] += 1;
         }
         // Nothing here is near the limits of 10.

@@ -64,10 +64,29 @@ pub fn operands_around(sheet: &[u8], block: usize, offset: usize) -> Option<Vec<
     whole.is_none().then_some(reader.around)
 }
 
+/// What a command is a part of.
+#[derive(Debug, Clone, Copy, PartialEq, Eq)]
+pub enum Part {
+    Sequence,
+    Then,
+    Else,
+    Body,
+}
+
+/// The parts in which the command at this offset of a block stands, from outside
+/// in, all before it being well-formed.
+pub fn parts_around(sheet: &[u8], block: usize, offset: usize) -> Option<Vec<Part>> {
+    let code = Layout::of(sheet)?.code_of(sheet, block)?;
+    let mut reader = Reader::new(code.get(..offset)?);
+    let whole = reader.command();
+    whole.is_none().then_some(reader.parts)
+}
+
 /// Reads code until it is done, or the code ends.
 struct Reader<'a> {
     rest: &'a [u8],
     around: Vec<Side>,
+    parts: Vec<Part>,
 }
 
 impl<'a> Reader<'a> {
@@ -75,6 +94,7 @@ impl<'a> Reader<'a> {
         Reader {
             rest: code,
             around: Vec::new(),
+            parts: Vec::new(),
         }
     }
 
@@ -119,20 +139,28 @@ impl<'a> Reader<'a> {
                 value: self.expression()?,
             }),
             Command::SEQUENCE => {
-                let commands = (0..self.byte()?).map(|_| self.command());
+                let commands = (0..self.byte()?).map(|_| self.part(Part::Sequence));
                 commands.collect::<Option<_>>().map(Command::Sequence)
             }
             Command::IF => {
                 let guard = self.expression()?;
-                let then_part = self.command()?;
-                Some(Command::if_else(guard, then_part, self.command()?))
+                let then_part = self.part(Part::Then)?;
+                Some(Command::if_else(guard, then_part, self.part(Part::Else)?))
             }
             Command::WHILE => {
                 let guard = self.expression()?;
-                Some(Command::while_do(guard, self.command()?))
+                Some(Command::while_do(guard, self.part(Part::Body)?))
             }
             _ => None,
         }
+    }
+
+    /// Where the code ends in a part, it stays behind.
+    fn part(&mut self, part: Part) -> Option<Command> {
+        self.parts.push(part);
+        let command = self.command()?;
+        self.parts.pop();
+        Some(command)
     }
 }
 
@@ -178,5 +206,27 @@ mod tests {
         assert_eq!(around(equal + 2 + literal), [Side::Right, Side::Right]);
         let behind = equal + 2 + 2 * literal;
         assert_eq!(operands_around(&sheet, 0, behind), None);
+    }
+
+    #[test]
+    fn parts_are_told_by_where_code_ends() {
+        let guard = || Expression::literal(Value::Truth(true));
+        let inner = Command::if_else(guard(), Command::Skip, Command::Skip);
+        let body = Command::Sequence(vec![Command::Skip, inner]);
+        let block = Block::plain(0, Command::while_do(guard(), body));
+        let sheet = programme_sheet(&[block]).bytes;
+        let around = |offset| parts_around(&sheet, 0, offset).expect("cut code");
+        assert_eq!(around(0), []);
+        // After 24 and its guard: the sequence, its skip, the if and its parts.
+        let sequence = 2 + Value::WIDTH;
+        assert_eq!(around(sequence), [Part::Body]);
+        let skip = sequence + 2;
+        assert_eq!(around(skip), [Part::Body, Part::Sequence]);
+        assert_eq!(around(skip + 1), [Part::Body, Part::Sequence]);
+        let then_part = skip + 1 + 2 + Value::WIDTH;
+        let inside = |part| [Part::Body, Part::Sequence, part];
+        assert_eq!(around(then_part), inside(Part::Then));
+        assert_eq!(around(then_part + 1), inside(Part::Else));
+        assert_eq!(parts_around(&sheet, 0, then_part + 2), None);
     }
 }

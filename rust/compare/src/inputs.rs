@@ -2,17 +2,23 @@
 
 use std::fmt::{self, Display, Formatter};
 
-use crate::author::{Author, Care};
+use crate::ample::plain_run;
+use crate::author::{adding_up, Author, Care};
+use crate::budgets::random_budget;
 use crate::calls::Run;
-use crate::code::programme_sheet;
-use crate::play_runs::{endorsed_sheets, plain_run, random_budget, random_sheets, RULES};
+use crate::code::{programme_sheet, Block, Command, Endorsement};
+use crate::expressions::Expression;
+use crate::play_runs::{endorsed_sheets, random_sheets, RULES};
 use crate::play_sheets::{good_programme, random_programme, random_store};
 use crate::random::Random;
 use crate::rule_numbers::other_byte;
 use crate::sheets::{store_sheet_at_limit, Store};
+use crate::values::{random_integer, Value};
 
 /// The most bytes that the program reads.
 const MOST: usize = second_runner::Input::MOST_BYTES;
+/// "The printing program lends 512 entries." (document 02, N7)
+pub const LENT: usize = 512;
 /// More than it reads and a pipe holds.
 const FAR_TOO_LONG: usize = 200_000;
 /// The rule byte and the budget.
@@ -135,6 +141,7 @@ fn random_run(random: &mut Random, end: End) -> Run {
     if random.one_in(30) {
         run.rule = u32::from(other_byte(random));
     }
+    run.journal_length = LENT;
     run
 }
 
@@ -160,8 +167,48 @@ fn any_sheets(random: &mut Random) -> (Vec<u8>, Vec<u8>) {
         }
         6..=8 => careful_sheets(random),
         9 | 10 => endorsed_sheets(random),
+        11 => sheets_of_writes(random),
         _ => random_sheets(random),
     }
+}
+
+/// Good sheets whose run makes as many writes as there are entries, or one more or
+/// one less.
+fn sheets_of_writes(random: &mut Random) -> (Vec<u8>, Vec<u8>) {
+    let writes = random.between(LENT - 1, LENT + 1);
+    let store = loop {
+        let store = Store::random(random);
+        if store.table.slots() > 0 {
+            break store;
+        }
+    };
+    let blocks = blocks_of_writes(random, &store, writes);
+    (store.bytes(), programme_sheet(&blocks).bytes)
+}
+
+/// Blocks of the top region: a counter that is set and then goes up, or one
+/// assignment after the other.
+fn blocks_of_writes(random: &mut Random, store: &Store, writes: usize) -> Vec<Block> {
+    let slots = store.table.slots();
+    let slot = random.below(slots) as u8;
+    let commands = match random.one_in(2) {
+        true => vec![adding_up(&[slot], writes - 1)],
+        false => {
+            let mut set = || {
+                let value = Value::Integer(random_integer(random));
+                Command::set(random.below(slots) as u8, Expression::literal(value))
+            };
+            let sets: Vec<Command> = (0..writes).map(|_| set()).collect();
+            let parts = sets.chunks(Command::MOST_IN_SEQUENCE);
+            parts.map(|part| Command::all(part.to_vec())).collect()
+        }
+    };
+    let block = |command| Block {
+        region: store.table.lattice.top(),
+        endorsement: Endorsement::Absent { ignored: 0 },
+        command,
+    };
+    commands.into_iter().map(block).collect()
 }
 
 fn no_blocks() -> Vec<u8> {
@@ -218,6 +265,26 @@ mod tests {
             let lengths = assert_refused(end, "end 6");
             assert!(lengths.first() > Some(&MOST));
         }
+    }
+
+    #[test]
+    fn writes_are_around_the_entries() {
+        let mut seen = BTreeSet::new();
+        for case in 0..60 {
+            let random = &mut Random::of_case(32, case);
+            let (store, programme) = sheets_of_writes(random);
+            let (rule, _, _) = random.pick(&RULES);
+            let run = plain_run(&store, &programme, rule);
+            let writes = run.second().journal.filled.len();
+            let lent = Run {
+                journal_length: LENT,
+                ..run
+            };
+            let fits = lent.second().answer.number == 0;
+            assert_eq!(fits, writes <= LENT);
+            seen.insert(writes);
+        }
+        assert!(seen.into_iter().eq(LENT - 1..=LENT + 1));
     }
 
     #[test]

@@ -1,5 +1,6 @@
 //! Which integers finished runs end with.
 
+use crate::outputs::{slots_of, Record};
 use crate::values::{size_of_integer, Integer, Value, ENDS};
 
 const SIZES: usize = Value::PAYLOAD + 1;
@@ -25,8 +26,8 @@ impl Counts {
     }
 }
 
-/// The integers in the outputs of finished runs: those of slots that hold what
-/// they opened with, from the store sheet, and the others, which were written.
+/// The integers in the outputs of finished runs: those of slots that keep what
+/// they opened with, and those that were written.
 #[derive(Debug, Clone, Copy, Default)]
 pub struct Integers {
     kept: Counts,
@@ -34,16 +35,14 @@ pub struct Integers {
 }
 
 impl Integers {
-    /// Counts what a finished run left of the store that this sheet opens.
-    pub fn count(&mut self, store: &[u8], output: &[u8]) {
-        let opening = &store[store.len() - output.len()..];
-        let slots = opening.chunks_exact(Value::WIDTH);
-        for (before, after) in slots.zip(output.chunks_exact(Value::WIDTH)) {
-            let counts = match before == after {
-                true => &mut self.kept,
-                false => &mut self.written,
+    /// Counts what a finished run left.
+    pub fn count(&mut self, output: &[u8]) {
+        for record in slots_of(output).filter_map(Record::in_bytes) {
+            let counts = match record.count {
+                0 => &mut self.kept,
+                _ => &mut self.written,
             };
-            if let Some(Value::Integer(integer)) = Value::in_bytes(after) {
+            if let Value::Integer(integer) = record.value {
                 counts.count(integer);
             }
         }
@@ -99,9 +98,14 @@ impl Integers {
 mod tests {
     use super::*;
 
-    fn output(integers: &[Integer]) -> Vec<u8> {
-        let bytes = |integer: &Integer| Value::Integer(*integer).bytes();
-        integers.iter().flat_map(bytes).collect()
+    /// The output of slots with these integers, each with this count.
+    fn output(integers: &[Integer], count: u32) -> Vec<u8> {
+        let record = |integer: &Integer| Record {
+            value: Value::Integer(*integer),
+            count,
+        };
+        let slots = integers.iter().map(record);
+        slots.flat_map(Record::bytes).collect()
     }
 
     #[test]
@@ -112,14 +116,13 @@ mod tests {
             .chain(ENDS)
             .collect();
         let mut integers = Integers::default();
-        integers.count(&output(&all), &output(&all));
+        integers.count(&output(&all, 0));
         assert_eq!(integers.complaints().len(), 2 * SIZES + ENDS.len());
-        let others = vec![77; all.len()];
-        integers.count(&output(&others), &output(&all));
+        integers.count(&output(&all, 1));
         assert!(integers.complaints().is_empty(), "{integers:?}");
 
         let before = integers.lines();
-        integers.count(&output(&[0]), &output(&[Integer::MIN]));
+        integers.count(&output(&[Integer::MIN], 7));
         let changed = before.iter().zip(integers.lines());
         assert_eq!(changed.filter(|(one, other)| *one != other).count(), 2);
     }

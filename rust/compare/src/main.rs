@@ -12,8 +12,9 @@
 //! Without the feature `proved` the second runner stands in for it, to try the
 //! generators. `prints` runs the proved printing program, `blockrun`.
 
-#![forbid(unsafe_code)]
+#![deny(unsafe_code)]
 
+mod ample;
 mod answers;
 mod author;
 mod blockrun;
@@ -23,16 +24,20 @@ mod code;
 mod damage;
 mod decode;
 mod expressions;
+#[cfg(test)]
+mod faulty;
 mod flaws;
 mod floors;
 mod high_bytes;
 mod inputs;
 mod integers;
+mod journals;
 mod lattices;
 mod layout;
 mod limits;
 mod lines;
 mod operations;
+mod outputs;
 mod play_pairs;
 mod play_prints;
 mod play_runs;
@@ -148,8 +153,7 @@ impl Report {
     }
 
     fn differs(&mut self, difference: Difference) {
-        let complaint = format!("the runners differ:\n{}", difference.shrunk());
-        self.complaints.push(complaint);
+        self.complaints.push(difference.shrunk().to_string());
     }
 
     /// Writes it all. A reader that has read enough is no failure.
@@ -209,12 +213,7 @@ fn play_runs(seed: u64, count: u64) -> Report {
                 "{count} pairs of sheets of seed {seed}, {runs} runs: no difference"
             ));
             report.say_answers(&tallies);
-            report.say(&played.wide);
-            report.say(played.budgets);
-            report.say_all(played.high_bytes.lines());
-            report.say_all(played.integers.lines());
-            report.say_all(played.places.lines());
-            report.say_all(played.steps.lines());
+            report.say_all(played.lines());
             report.complaints = played.complaints();
         }
         Err(difference) => report.differs(*difference),

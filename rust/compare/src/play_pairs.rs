@@ -5,14 +5,16 @@
 //! not stand at or below the adversary; a block is within reach when its
 //! region does. Two stores agree in the protected slots, no endorsed block
 //! outside reach has a floor at or below the adversary, and in each of two
-//! replacements the blocks within reach are any blocks within reach. If both
-//! runs finish, they end alike in the protected slots.
+//! replacements the blocks within reach are any blocks within reach. Budgets are
+//! any, and journals of different lengths are lent. If both runs finish, they end
+//! alike in the protected slots, counts of writes included, and the entries that
+//! name these are the same list.
 //!
 //! So says one direction of demand 3. The other: two stores that differ in a
 //! protected slot have a programme that shows it. One with no blocks does.
 //!
 //! The demand is also played with a condition left out. Then some pairs must
-//! end differently in a protected slot, or the condition would not be needed.
+//! leave a protected slot differently, or the condition would not be needed.
 
 mod counts;
 mod endorsed;
@@ -20,6 +22,7 @@ mod making;
 mod pair;
 mod tainted;
 mod terms;
+mod traces;
 
 use self::counts::{Played, Rules, Without};
 use self::pair::{Leak, Pair};
@@ -30,7 +33,7 @@ use crate::random::Random;
 #[derive(Debug, Clone)]
 pub enum Stopped {
     Differs(Box<Difference>),
-    /// Runs that demand 3 says end alike don't.
+    /// Runs that demand 3 says end alike don't, or their entries are not alike.
     Leaks(Box<Leak>),
     /// Runs that demand 3 says end differently don't.
     Hides(Box<[Call; 2]>),

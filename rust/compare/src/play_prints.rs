@@ -6,16 +6,22 @@ use std::io;
 
 use crate::blockrun::{Printed, Program};
 use crate::calls::hex;
-use crate::inputs::{End, Input};
+use crate::decode::store_in;
+use crate::inputs::{End, Input, LENT};
+use crate::lattices::MOST_PRINCIPALS;
 use crate::lines::{Lines, SlotLine};
 use crate::random::Random;
 use crate::sheets::MOST_SLOTS;
-use crate::steps::Steps;
+use crate::steps::{Followed, Steps};
 use crate::tally::{Checklist, Tally, NUMBERS};
 use crate::values::{Integer, Kind, ENDS};
 
 /// The program lends an output of the length that the store sheet asks for.
 const IMPOSSIBLE: u32 = 12;
+
+/// How many principals stand at or above some owners: one at the top, and all
+/// where there are as many as there may be.
+const ABOVE: [usize; 5] = [1, 2, 3, 4, MOST_PRINCIPALS];
 
 /// Counts of the inputs and of what was printed.
 #[derive(Debug, Clone)]
@@ -29,11 +35,19 @@ pub struct Played {
     without_minus: Checklist,
     with_minus: Checklist,
     extremes: Checklist,
+    /// Finished runs by their total of writes, as none or as many as fit.
+    totals: Checklist,
+    /// Counts of slots, by how many digits they have.
+    counts: Checklist,
+    /// Owners, by how many principals stand at or above them.
+    above: Checklist,
     steps: Steps,
     /// Inputs that the program did not read to their end.
     unread: u64,
-    /// Outputs that are not lines as document 01 has them, for both alike.
+    /// Outputs that are not lines as the documents have them, for both alike.
     formless: u64,
+    /// Outputs that don't fit the input's table, or whose total is wrong.
+    unfit: u64,
 }
 
 impl Played {
@@ -50,32 +64,50 @@ impl Played {
             without_minus: Checklist::new("integers without a minus, by digits", digits.clone()),
             with_minus: Checklist::new("integers with a minus, by digits", digits),
             extremes: Checklist::new("integers at an end", ENDS),
+            totals: Checklist::new("finished runs, by writes", [0, LENT - 1, LENT]),
+            counts: Checklist::new("slots, by digits of their count", 1..=3),
+            above: Checklist::new("owners, by principals at or above", ABOVE),
             steps: Steps::default(),
             unread: 0,
             formless: 0,
+            unfit: 0,
         }
     }
 
-    fn count(&mut self, end: End, printed: &Printed) {
+    /// Counts what was printed of an input with this end. Where it is known, the
+    /// store is the input's.
+    fn count(&mut self, end: End, store: Option<&[u8]>, printed: &Printed) {
         self.ends.count(end);
         self.unread += u64::from(printed.left_unread);
-        match Lines::read(&printed.bytes) {
-            Some(lines) => self.count_lines(&lines),
-            None => self.formless += 1,
+        let Some(lines) = Lines::read(&printed.bytes) else {
+            self.formless += 1;
+            return;
+        };
+        self.count_lines(&lines);
+        if let (0, Some(store)) = (lines.number, store) {
+            let fits = store_in(store).is_some_and(|store| lines.agree_with(&store.table));
+            self.unfit += u64::from(!fits);
         }
     }
 
     fn count_lines(&mut self, lines: &Lines) {
         self.answers.count(lines.number);
-        if lines.number == 0 {
+        if let Some(total) = lines.total {
             self.slots.count(lines.slots.len());
+            self.totals.count(total);
         }
-        for SlotLine { kind, payload } in &lines.slots {
-            self.kinds.count(kind);
-            if *kind == Kind::Integer as u8 {
-                self.count_integer(*payload);
-            }
+        for slot in &lines.slots {
+            self.count_slot(slot);
         }
+    }
+
+    fn count_slot(&mut self, slot: &SlotLine) {
+        self.kinds.count(slot.kind);
+        if slot.kind == Kind::Integer as u8 {
+            self.count_integer(slot.payload);
+        }
+        self.counts.count(digits(Integer::from(slot.count)));
+        self.above.count(slot.above);
     }
 
     fn count_integer(&mut self, integer: Integer) {
@@ -87,7 +119,7 @@ impl Played {
         self.extremes.count(integer);
     }
 
-    fn lists(&self) -> [&Checklist; 6] {
+    fn lists(&self) -> [&Checklist; 9] {
         [
             &self.ends,
             &self.slots,
@@ -95,6 +127,9 @@ impl Played {
             &self.without_minus,
             &self.with_minus,
             &self.extremes,
+            &self.totals,
+            &self.counts,
+            &self.above,
         ]
     }
 
@@ -112,12 +147,15 @@ impl Played {
         let unread = (self.unread == 0).then(|| "every input was read to its end".to_string());
         let formless = (self.formless > 0)
             .then(|| format!("{} outputs are not lines as they should be", self.formless));
+        let unfit = (self.unfit > 0)
+            .then(|| format!("{} outputs don't fit their table or total", self.unfit));
         let answers = self.answers.complaints().into_iter();
         answers
             .chain(lists.concat())
             .chain(self.steps.complaints_of_steps_done())
             .chain(unread)
             .chain(formless)
+            .chain(unfit)
             .collect()
     }
 }
@@ -197,9 +235,12 @@ fn play_by(
         let made = Input::random(&mut Random::of_case(seed, case));
         let (printed, second) = (print(&made.bytes)?, second_runner::print(&made.bytes));
         if printed.bytes == second && printed.status.success() {
-            played.count(made.end, &printed);
-            if let Some(run) = made.asked() {
-                played.steps.count(run, run.second().answer);
+            let asked = made.asked();
+            let store = asked.map(|run| run.store.as_slice());
+            played.count(made.end, store, &printed);
+            let followed = asked.and_then(|run| Followed::of(run, run.second().answer));
+            if let Some(followed) = followed {
+                played.steps.count(&followed);
             }
             continue;
         }
@@ -221,70 +262,4 @@ fn play_by(
 }
 
 #[cfg(test)]
-mod tests {
-    use super::*;
-    use crate::{Play, DEFAULT_SEED};
-    use std::process::ExitStatus;
-
-    /// What a program does that prints this and ends well.
-    fn seen(bytes: Vec<u8>, input: &[u8]) -> Printed {
-        Printed {
-            bytes,
-            status: ExitStatus::default(),
-            left_unread: input.len() > second_runner::Input::MOST_BYTES,
-        }
-    }
-
-    #[test]
-    fn everything_comes_up() {
-        let print = |input: &[u8]| Ok(seen(second_runner::print(input), input));
-        for seed in DEFAULT_SEED..DEFAULT_SEED + 3 {
-            let played = play_by(print, seed, Play::Prints.default_count());
-            let complaints = played.expect("no difference").complaints();
-            assert!(complaints.is_empty(), "seed {seed}: {complaints:?}");
-        }
-    }
-
-    #[test]
-    fn what_never_comes_up_is_told() {
-        let mut played = Played::new();
-        let before = played.complaints().len();
-        let least = b"end 0 block 0 at 0 steps 0\n0 0 0 -9223372036854775808\n";
-        played.count(End::Right, &seen(least.to_vec(), &[]));
-        // The answer, the input's end, the kind, the digits and the integer.
-        assert_eq!(played.complaints().len(), before - 5);
-        played.count(End::Right, &seen(b"end".to_vec(), &[]));
-        assert_eq!(played.complaints().len(), before - 4);
-    }
-
-    /// How many inputs a program prints differently that changes the text so,
-    /// and the shortest.
-    fn differing(change: impl Fn(String) -> String) -> (u64, Difference) {
-        let print = |input: &[u8]| {
-            let text = String::from_utf8(second_runner::print(input)).expect("text");
-            Ok(seen(change(text).into_bytes(), input))
-        };
-        match play_by(print, DEFAULT_SEED, 300) {
-            Err(Stopped::Differs(count, shortest)) => (count, *shortest),
-            other => panic!("no difference: {other:?}"),
-        }
-    }
-
-    #[test]
-    fn a_program_that_prints_otherwise_is_told() {
-        let (without_minus, shortest) = differing(|text| text.replace('-', ""));
-        assert!(without_minus < 300);
-        assert!(shortest.second.contains(&b'-'), "{shortest}");
-        let last_newline_cut = differing(|text| text.trim_end().to_string());
-        assert_eq!(last_newline_cut.0, 300);
-        let (finished, shortest) = differing(|text| text.replace("end 0", "end 1"));
-        assert!(finished < 300);
-        assert!(shortest.second.starts_with(b"end 0"), "{shortest}");
-    }
-
-    #[test]
-    fn the_shortest_difference_is_told() {
-        let (count, shortest) = differing(|text| text + "more\n");
-        assert_eq!((count, shortest.input), (300, vec![]));
-    }
-}
+mod tests;

@@ -13,7 +13,7 @@ use crate::random::Random;
 use crate::sheets::{
     flawed_store_sheet, flawed_table_sheet, store_sheet_at_limit, Sheet, Store, Table, MOST_SLOTS,
 };
-use crate::tally::Tally;
+use crate::tally::{Tally, NUMBERS};
 
 /// Counts of the three checks. The numbers that aren't due cannot come up.
 #[derive(Debug, Clone)]
@@ -28,8 +28,10 @@ pub struct Played {
 
 impl Played {
     fn new() -> Played {
-        let others =
-            |due: &[u32]| -> Vec<u32> { (0..18).filter(|number| !due.contains(number)).collect() };
+        let others = |due: &[u32]| -> Vec<u32> {
+            let all = 0..NUMBERS as u32;
+            all.filter(|number| !due.contains(number)).collect()
+        };
         let tally = |name, due: &[u32]| Tally::new(name, due, &others(due));
         Played {
             store: tally("check_store", &[0, 1, 2, 3, 4, 5]),

@@ -1,8 +1,12 @@
 //! The proved runner, by the numbers that it answers.
 
+use std::mem::offset_of;
+
 use muntyzhap::raw;
 
 use crate::answers::Answer;
+use crate::calls::Run;
+use crate::journals::{as_entries, Words};
 
 pub use muntyzhap::raw::{check_store, check_table};
 
@@ -11,9 +15,29 @@ pub fn check_programme(sheet: &[u8], principals: usize, slots: usize) -> Answer 
     raw::check_programme(sheet, principals, slots).into()
 }
 
-pub fn run(store: &[u8], programme: &[u8], rule: u32, budget: u32, output: &mut [u8]) -> Answer {
-    raw::run(store, programme, rule, budget, output).into()
+pub fn run(run: &Run, output: &mut [u8], journal: &mut [Words]) -> Answer {
+    let Run {
+        store,
+        programme,
+        rule,
+        budget,
+        ..
+    } = run;
+    let journal = as_entries(journal);
+    raw::run(store, programme, *rule, *budget, output, journal).into()
 }
+
+// Both runners' entries have their fields at the same places.
+const _: () = {
+    type Second = second_runner::Entry;
+    assert!(offset_of!(raw::Entry, block) == offset_of!(Second, block));
+    assert!(offset_of!(raw::Entry, offset) == offset_of!(Second, offset));
+    assert!(offset_of!(raw::Entry, slot) == offset_of!(Second, slot));
+    assert!(offset_of!(raw::Entry, old_value.kind) == offset_of!(Second, old.kind));
+    assert!(offset_of!(raw::Entry, old_value.payload) == offset_of!(Second, old.payload));
+    assert!(offset_of!(raw::Entry, new_value.kind) == offset_of!(Second, new.kind));
+    assert!(offset_of!(raw::Entry, new_value.payload) == offset_of!(Second, new.payload));
+};
 
 impl From<raw::Answer> for Answer {
     fn from(answer: raw::Answer) -> Answer {

@@ -1,8 +1,10 @@
 //! The second runner, asked in the proved library's way.
 
 use crate::answers::Answer;
+use crate::calls::Run;
+use crate::journals::{as_entries, Words};
+use crate::outputs::output_length;
 use crate::sheets::plain_store;
-use crate::values::Value;
 
 /// What checking a programme sheet answers, for so many principals and slots. A run
 /// over a good store comes to it: with an output of the right length and no
@@ -10,8 +12,8 @@ use crate::values::Value;
 /// good and its run finishes (0) or is spent (17).
 pub fn check_programme(sheet: &[u8], principals: usize, slots: usize) -> Answer {
     let store = plain_store(principals, slots).bytes();
-    let mut output = vec![0; slots * Value::WIDTH];
-    let answer = run(&store, sheet, 0, 0, &mut output);
+    let mut output = vec![0; output_length(slots)];
+    let answer: Answer = second_runner::run(&store, sheet, 0, 0, &mut output, &mut []).into();
     match answer.number {
         6..=10 => answer,
         0 | 17 => Answer::only(0),
@@ -19,6 +21,18 @@ pub fn check_programme(sheet: &[u8], principals: usize, slots: usize) -> Answer 
     }
 }
 
-pub fn run(store: &[u8], programme: &[u8], rule: u32, budget: u32, output: &mut [u8]) -> Answer {
-    second_runner::run(store, programme, rule, budget, output).into()
+pub fn run(run: &Run, output: &mut [u8], journal: &mut [Words]) -> Answer {
+    run_with(run, output, as_entries(journal))
+}
+
+/// The same with the second runner's own entries.
+pub fn run_with(run: &Run, output: &mut [u8], journal: &mut [second_runner::Entry]) -> Answer {
+    let Run {
+        store,
+        programme,
+        rule,
+        budget,
+        ..
+    } = run;
+    second_runner::run(store, programme, *rule, *budget, output, journal).into()
 }

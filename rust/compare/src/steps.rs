@@ -3,8 +3,8 @@
 
 use crate::answers::Answer;
 use crate::calls::Run;
-use crate::code::Block;
-use crate::decode::{blocks_in, store_in};
+use crate::code::{Block, Command};
+use crate::decode::{blocks_in, command_at, store_in};
 use crate::floors::Judged;
 use crate::operations::Worked;
 use crate::rehearsal::{Rehearsal, Watch};
@@ -21,7 +21,7 @@ pub struct Followed<'a> {
 impl Followed<'_> {
     /// None if it is refused before its first step.
     pub fn of(run: &Run, answer: Answer) -> Option<Followed<'_>> {
-        if !matches!(answer.number, 0 | 13..=17) {
+        if !matches!(answer.number, 0 | 13..=18) {
             return None;
         }
         let sheets = store_in(&run.store).zip(blocks_in(&run.programme));
@@ -45,6 +45,13 @@ impl Followed<'_> {
     pub fn is_whole(&self) -> bool {
         self.answer.steps <= Rehearsal::MOST_STEPS
     }
+
+    /// The command whose step is refused, if one is.
+    pub fn refused(&self) -> Option<Command> {
+        let Answer { block, offset, .. } = self.answer;
+        let is_refused = self.answer.number != 0;
+        is_refused.then(|| command_at(&self.run.programme, block, offset))?
+    }
 }
 
 /// What is counted of the steps of runs.
@@ -56,13 +63,11 @@ pub struct Steps {
 
 impl Steps {
     /// Counts what a run does that takes place.
-    pub fn count(&mut self, run: &Run, answer: Answer) {
-        let Some(followed) = Followed::of(run, answer) else {
-            return;
-        };
-        let mut judged = self.judged.watcher(run.rule, answer);
+    pub fn count(&mut self, followed: &Followed) {
+        let (rule, answer) = (followed.run.rule, followed.answer);
+        let mut judged = self.judged.watcher(rule, answer);
         let stage = followed.play(&mut (&mut self.worked, &mut judged));
-        self.worked.count_refused(&followed, &stage);
+        self.worked.count_refused(followed, &stage);
     }
 
     /// The counts, line by line.

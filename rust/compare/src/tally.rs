@@ -3,7 +3,7 @@
 use std::fmt::{self, Display, Formatter};
 
 /// The numbers an answer can have.
-pub const NUMBERS: usize = 18;
+pub const NUMBERS: usize = 19;
 
 /// How often each number was the answer to one sort of call, and which ones
 /// must come up there and which cannot.
@@ -51,7 +51,8 @@ impl Tally {
             .filter(|number| self.of(**number) > 0);
         let missing = missing.map(|number| format!("{name}: {number} never came up"));
         let wrong = wrong.map(|number| format!("{name}: {number} came up, which cannot be"));
-        let unknown = (self.unknown > 0).then(|| format!("{name}: a number past 17 came up"));
+        let last = NUMBERS - 1;
+        let unknown = (self.unknown > 0).then(|| format!("{name}: a number past {last} came up"));
         missing.chain(wrong).chain(unknown).collect()
     }
 
@@ -110,6 +111,13 @@ impl Checklist {
             .map(|(thing, _)| format!("{}: {thing} never came up", self.name))
             .collect()
     }
+
+    /// What came up no more often than this, in words.
+    pub fn complaints_up_to(&self, few: u64) -> Vec<String> {
+        let rare = self.counts.iter().filter(|(_, count)| *count <= few);
+        rare.map(|(thing, count)| format!("{}: {thing} came up {count} times", self.name))
+            .collect()
+    }
 }
 
 /// The counts in a line, with their sum.
@@ -138,6 +146,8 @@ mod tests {
         assert_eq!(list.to_string(), "sizes (3)  0: 2, 256: 1");
         list.add(1, 4);
         assert_eq!(list.to_string(), "sizes (7)  0: 2, 256: 5");
+        assert!(list.complaints_up_to(1).is_empty());
+        assert_eq!(list.complaints_up_to(2), ["sizes: 0 came up 2 times"]);
     }
 
     #[test]
@@ -152,7 +162,7 @@ mod tests {
             tally.complaints(),
             ["run: 15 came up, which cannot be".to_string()]
         );
-        tally.count(18);
+        tally.count(NUMBERS as u32);
         assert_eq!(tally.complaints().len(), 2);
     }
 }

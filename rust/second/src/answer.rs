@@ -47,6 +47,7 @@ pub(crate) enum Refusal {
     WriteViewNotAllowed = 15,
     ProvenanceTooLow = 16,
     BudgetSpent = 17,
+    JournalFull = 18,
 }
 
 impl Refusal {
@@ -73,7 +74,7 @@ impl From<Refusal> for Answer {
 }
 
 /// A refusal at an offset of some block: 9 and 10 while the code is read, 13
-/// to 17 while it runs.
+/// to 18 while it runs.
 #[derive(Debug, Clone, Copy, PartialEq, Eq)]
 pub(crate) struct BlockRefusal {
     pub refusal: Refusal,

@@ -13,6 +13,7 @@
 mod answer;
 mod bytes;
 mod code;
+mod journal;
 mod operation;
 mod order;
 mod print;
@@ -23,19 +24,30 @@ mod sheet;
 mod value;
 
 pub use crate::answer::Answer;
+pub use crate::journal::{Entry, Value};
 pub use crate::print::{print, Input};
 
 use crate::answer::Refusal;
 use crate::code::parse_blocks;
+use crate::journal::Journal;
 use crate::programme::ProgrammeSheet;
 use crate::rule::{Budget, RuleSet};
 use crate::run::run_blocks;
 use crate::sheet::{Store, Table};
 
 /// Judges both sheets and the arguments, runs the blocks and, if they finish,
-/// writes the end store to `output`. A refusal leaves `output` untouched.
-pub fn run(store: &[u8], programme: &[u8], rule: u32, budget: u32, output: &mut [u8]) -> Answer {
-    match judge_and_run(store, programme, rule, budget, output) {
+/// writes the end store to `output` and an entry for each write to `journal`,
+/// whose entries past the writes keep what they held. A refusal leaves both
+/// untouched.
+pub fn run(
+    store: &[u8],
+    programme: &[u8],
+    rule: u32,
+    budget: u32,
+    output: &mut [u8],
+    journal: &mut [Entry],
+) -> Answer {
+    match judge_and_run(store, programme, rule, budget, output, journal) {
         Ok(finished) => finished,
         Err(refused) => refused,
     }
@@ -58,6 +70,7 @@ fn judge_and_run(
     rule: u32,
     budget: u32,
     output: &mut [u8],
+    journal: &mut [Entry],
 ) -> Result<Answer, Answer> {
     let rule = RuleSet::from_number(rule).ok_or(Refusal::Arguments)?;
     let budget = Budget::from_steps(budget).ok_or(Refusal::Arguments)?;
@@ -67,7 +80,9 @@ fn judge_and_run(
     if output.len() != opening.output_bytes() {
         return Err(Refusal::OutputLength.into());
     }
-    let end = run_blocks(opening, &blocks, rule, budget)?;
+    let writes = Journal::of_length(journal.len());
+    let end = run_blocks(opening, &blocks, rule, budget, writes)?;
     end.store.write_to(output);
+    end.journal.fill(journal);
     Ok(Answer::finished(blocks.len(), end.steps))
 }

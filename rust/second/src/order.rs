@@ -62,6 +62,14 @@ impl Order {
         self.relation.at_or_below(lower, upper)
     }
 
+    /// How many principals stand at or above this one, itself among them.
+    pub fn principals_at_or_above(&self, lower: Principal) -> usize {
+        let principals = self.relation.principals();
+        principals
+            .filter(|upper| self.at_or_below(lower, *upper))
+            .count()
+    }
+
     /// The greatest common lower principal of the two.
     pub fn meet(&self, a: Principal, b: Principal) -> Principal {
         self.meets[a.index()][b.index()]

@@ -2,6 +2,8 @@
 
 use crate::answer::{Answer, Refusal};
 use crate::bytes::{number, take};
+use crate::journal::Entry;
+use crate::order::{Order, Principal};
 use crate::run;
 use crate::sheet::{Slot, Store, StoreSizes};
 
@@ -17,6 +19,8 @@ pub struct Input<'a> {
 impl<'a> Input<'a> {
     /// "It reads at most 32,768 bytes, more than any good input has."
     pub const MOST_BYTES: usize = 32_768;
+    /// "The printing program lends 512 entries." (document 02, N7)
+    pub const LENT_ENTRIES: usize = 512;
     const RULE_BYTES: usize = 1;
     const BUDGET_BYTES: usize = 4;
 
@@ -59,11 +63,12 @@ pub fn print(input: &[u8]) -> Vec<u8> {
         input.rule,
         input.budget,
         &mut output,
+        &mut [Entry::default(); Input::LENT_ENTRIES],
     );
     let mut text = first_line(answer);
     // "A refusal prints line 1 only."
     if answer.number == Answer::FINISHED {
-        text.push_str(&slot_lines(input.store, &output));
+        text.push_str(&lines_of_end(input.store, &output));
     }
     text.into_bytes()
 }
@@ -76,21 +81,39 @@ fn first_line(answer: Answer) -> String {
     )
 }
 
-/// "Then per slot: slot, owner, kind, payload." The owners are those of the
-/// store sheet, which is good where a run has finished.
-fn slot_lines(store_sheet: &[u8], output: &[u8]) -> String {
-    let Ok(store) = Store::from_sheet(store_sheet) else {
+/// The lines after the first, for a run that finished with this output. The
+/// table is that of the store sheet, which is good where a run has finished.
+fn lines_of_end(store_sheet: &[u8], output: &[u8]) -> String {
+    let Ok(Store { table, .. }) = Store::from_sheet(store_sheet) else {
         return String::new();
     };
-    let owners = store.table.owners();
-    let slots = output
+    let slots: Vec<Slot> = output
         .chunks_exact(Slot::OUTPUT_BYTES)
-        .map_while(|bytes| Slot::from_output(bytes, owners.len()));
-    let lines = owners.iter().zip(slots).enumerate();
-    lines
-        .map(|(number, (owner, slot))| {
-            let (kind, payload) = (slot.value.kind().byte(), slot.value.payload());
-            format!("{number} {} {kind} {payload}\n", owner.number())
-        })
-        .collect()
+        .map_while(|bytes| Slot::from_output(bytes, table.slots()))
+        .collect();
+    let numbered = table.owners().iter().zip(&slots).enumerate();
+    let lines: String = numbered
+        .map(|(number, (owner, slot))| slot_line(&table.order, number, *owner, slot))
+        .collect();
+    lines + &last_line(&slots)
+}
+
+/// "Then per slot: slot, owner, kind, payload." "each slot's line ends with two
+/// more fields, its count and how many principals stand at or above its owner"
+/// (document 02, N7)
+fn slot_line(order: &Order, number: usize, owner: Principal, slot: &Slot) -> String {
+    format!(
+        "{number} {} {} {} {} {}\n",
+        owner.number(),
+        slot.value.kind().byte(),
+        slot.value.payload(),
+        slot.writes,
+        order.principals_at_or_above(owner)
+    )
+}
+
+/// "a last line is the total of writes" (document 02, N7)
+fn last_line(slots: &[Slot]) -> String {
+    let total: u32 = slots.iter().map(|slot| slot.writes).sum();
+    format!("{total}\n")
 }

@@ -1,18 +1,20 @@
 //! The run: expressions, guards and assignments, recursive over the tree.
-//! Refusals 13 to 17.
+//! Refusals 13 to 18.
 
 use crate::answer::{Answer, BlockRefusal, Refusal};
 use crate::code::{Block, Command, Expression, Form, Operation};
+use crate::journal::{Journal, Write};
 use crate::order::Principal;
 use crate::programme::Region;
 use crate::rule::{Budget, Labels, RuleSet};
 use crate::sheet::Store;
-use crate::value::Value;
+use crate::value::{SlotNumber, Value};
 
 /// A finished run.
 pub(crate) struct End {
     pub store: Store,
     pub steps: u32,
+    pub journal: Journal,
 }
 
 /// "Blocks run in order."
@@ -21,15 +23,17 @@ pub(crate) fn run_blocks(
     blocks: &[Block],
     rule: RuleSet,
     budget: Budget,
+    journal: Journal,
 ) -> Result<End, Answer> {
-    let mut run = Run::opening(opening, rule, budget);
+    let mut run = Run::opening(opening, rule, budget, journal);
     for (number, block) in blocks.iter().enumerate() {
-        run.block(block)
+        run.block(number, block)
             .map_err(|refused| refused.in_block(number, run.steps))?;
     }
     Ok(End {
         store: run.store,
         steps: run.steps,
+        journal: run.journal,
     })
 }
 
@@ -50,21 +54,26 @@ struct Run {
     rule: RuleSet,
     budget: Budget,
     steps: u32,
+    journal: Journal,
+    /// The number of the block that is running.
+    block: usize,
 }
 
 impl Run {
-    fn opening(store: Store, rule: RuleSet, budget: Budget) -> Run {
-        let steps = Answer::NO_STEPS;
+    fn opening(store: Store, rule: RuleSet, budget: Budget, journal: Journal) -> Run {
         Run {
             store,
             rule,
             budget,
-            steps,
+            steps: Answer::NO_STEPS,
+            journal,
+            block: 0,
         }
     }
 
     /// The branch label "is top at a block's start".
-    fn block(&mut self, block: &Block) -> Result<(), BlockRefusal> {
+    fn block(&mut self, number: usize, block: &Block) -> Result<(), BlockRefusal> {
+        self.block = number;
         let top = self.store.table.order.top();
         self.command(block.region, &block.command, top)
     }
@@ -84,7 +93,11 @@ impl Run {
         match &command.form {
             Form::Skip => Ok(()),
             Form::Assignment { target, value } => {
-                self.assignment(region, target, value, branch).map_err(here)
+                let (slot, value) = self
+                    .judge_assignment(region, target, value, branch)
+                    .map_err(here)?;
+                self.write(command.offset, slot, value);
+                Ok(())
             }
             Form::Sequence(commands) => commands
                 .iter()
@@ -125,16 +138,18 @@ impl Run {
         Ok(Guard { holds, label })
     }
 
-    /// One step: "target evaluated first, must be a write view, then the
-    /// value"; then the rule judges the assignment itself.
-    fn assignment(
-        &mut self,
+    /// The slot that an assignment is to write, and the value. "target
+    /// evaluated first, must be a write view, then the value"; then the rule
+    /// judges the assignment itself.
+    fn judge_assignment(
+        &self,
         region: Region,
         target: &Expression,
         value: &Expression,
         branch: Principal,
-    ) -> Result<(), Refusal> {
+    ) -> Result<(SlotNumber, Value), Refusal> {
         self.judge_budget()?;
+        self.judge_journal()?;
         let target = self.evaluate(region, target)?;
         let Value::WriteView(slot) = target.value else {
             return Err(Refusal::WrongKind);
@@ -148,15 +163,35 @@ impl Run {
         let table = &self.store.table;
         self.rule
             .judge_assignment(&table.order, region, table.owner(slot), labels)?;
-        self.store.assign(slot, value.value);
+        Ok((slot, value.value))
+    }
+
+    /// One step: makes an assignment that passed, with its entry.
+    fn write(&mut self, offset: u32, slot: SlotNumber, value: Value) {
+        self.journal.add(Write {
+            block: self.block,
+            offset,
+            slot,
+            old: self.store.value(slot),
+            new: value,
+        });
+        self.store.assign(slot, value);
         self.steps += 1;
-        Ok(())
     }
 
     /// "Before each step, if steps done equal the budget, the run is spent."
     fn judge_budget(&self) -> Result<(), Refusal> {
         if self.budget.is_spent(self.steps) {
             return Err(Refusal::BudgetSpent);
+        }
+        Ok(())
+    }
+
+    /// "18 when an assignment comes and no entry is free, judged after 17 and
+    /// before the target is evaluated." (document 02, N7)
+    fn judge_journal(&self) -> Result<(), Refusal> {
+        if self.journal.is_full() {
+            return Err(Refusal::JournalFull);
         }
         Ok(())
     }

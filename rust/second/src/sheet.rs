@@ -107,22 +107,40 @@ impl Table {
 #[derive(Debug, Clone, Copy)]
 pub(crate) struct Slot {
     pub value: Value,
+    /// How often it was written.
+    pub writes: u32,
 }
 
 impl Slot {
-    /// The bytes a slot takes in the output.
-    pub const OUTPUT_BYTES: usize = Value::BYTES;
-    const UNUSED: Slot = Slot {
-        value: Value::Integer(0),
-    };
+    /// "output gains 4 bytes of it after each value, so a slot takes 13 bytes"
+    /// (document 02, N7)
+    pub const OUTPUT_BYTES: usize = Value::BYTES + Slot::WRITES_BYTES;
+    const WRITES_BYTES: usize = size_of::<u32>();
+    const UNUSED: Slot = Slot::opening(Value::Integer(0));
 
-    fn to_output(self) -> [u8; Slot::OUTPUT_BYTES] {
-        self.value.to_bytes()
+    /// A slot that was not written yet: its count is "0 at opening".
+    const fn opening(value: Value) -> Slot {
+        Slot { value, writes: 0 }
+    }
+
+    fn write(&mut self, value: Value) {
+        self.value = value;
+        self.writes += 1;
+    }
+
+    fn write_to(self, output: &mut [u8]) {
+        let (value, writes) = output.split_at_mut(Value::BYTES);
+        value.copy_from_slice(&self.value.to_bytes());
+        writes.copy_from_slice(&self.writes.to_le_bytes());
     }
 
     /// The slot that these output bytes show, among `slots` slots.
     pub fn from_output(bytes: &[u8], slots: usize) -> Option<Slot> {
-        Value::from_bytes(bytes, slots).map(|value| Slot { value })
+        let mut rest = bytes;
+        Some(Slot {
+            value: Value::from_bytes(take(&mut rest, Value::BYTES)?, slots)?,
+            writes: number(take(&mut rest, Slot::WRITES_BYTES)?) as u32,
+        })
     }
 }
 
@@ -147,7 +165,8 @@ impl Store {
         let sheet_slots = owner_bytes.iter().zip(rest.chunks_exact(Value::BYTES));
         for ((owner, value), slot) in sheet_slots.zip(&mut held) {
             owners.push(read_owner(&order, *owner)?);
-            slot.value = Value::from_bytes(value, sizes.slots).ok_or(Refusal::Value)?;
+            let value = Value::from_bytes(value, sizes.slots).ok_or(Refusal::Value)?;
+            *slot = Slot::opening(value);
         }
         let table = Table { order, owners };
         Ok(Store { table, held })
@@ -159,7 +178,7 @@ impl Store {
     }
 
     pub fn assign(&mut self, slot: SlotNumber, value: Value) {
-        self.held[slot.index()].value = value;
+        self.held[slot.index()].write(value);
     }
 
     /// The length the output must have.
@@ -170,7 +189,7 @@ impl Store {
     /// Writes the slots below m to an output of just that length.
     pub fn write_to(&self, output: &mut [u8]) {
         for (bytes, slot) in output.chunks_exact_mut(Slot::OUTPUT_BYTES).zip(&self.held) {
-            bytes.copy_from_slice(&slot.to_output());
+            slot.write_to(bytes);
         }
     }
 }

@@ -43,37 +43,47 @@ fn altered_call(seed: u64) -> Call {
 
 /// What document 01 says of any answer, whatever the sheets hold.
 fn check_contract(call: &Call) -> Answer {
-    let (answer, output) = call.play();
+    let played = call.play();
+    let answer = played.answer;
     let place = (answer.block, answer.offset, answer.steps);
     match answer.number {
         0 => {
             assert_eq!(answer.block, u32::from(call.programme[0]));
             assert_eq!(answer.offset, 0);
             assert!(answer.steps <= call.budget);
-            assert_eq!(check_store(&end_sheet(call, &output)), 0);
+            assert_eq!(check_store(&end_sheet(call, &played.output)), 0);
         }
         1..=8 | 11 | 12 => assert_eq!(place, (0, 0, 0)),
         9 | 10 => assert_eq!(answer.steps, 0),
         13..=16 => assert!(answer.steps < call.budget),
         17 => assert_eq!(answer.steps, call.budget),
+        18 => {
+            assert!(answer.steps < call.budget);
+            assert!(call.journal <= answer.steps as usize);
+        }
         other => panic!("an unknown number {other}"),
     }
     if answer.number != 0 {
-        assert_untouched(&output);
+        played.assert_untouched();
     }
-    if matches!(answer.number, 9 | 10 | 13..=17) {
+    if matches!(answer.number, 9 | 10 | 13..=18) {
         let length = block_length(call, answer.block);
         let may_be_past = answer.number == 9;
         assert!(answer.offset < length || may_be_past && answer.offset == length);
     }
-    check_printed(call, answer, &output);
+    check_printed(call, &played);
     answer
 }
 
 /// The store sheet with the output's values in place of its own.
 fn end_sheet(call: &Call, output: &[u8]) -> Bytes {
-    let start = call.store.len() - output.len();
-    join(&[&call.store[..start], output])
+    let values: Vec<Bytes> = end_slots(output)
+        .into_iter()
+        .map(|slot| slot.value)
+        .collect();
+    let values = values.concat();
+    let start = call.store.len() - values.len();
+    join(&[&call.store[..start], &values])
 }
 
 fn block_length(call: &Call, block: u32) -> u32 {
@@ -88,34 +98,40 @@ fn block_length(call: &Call, block: u32) -> u32 {
 }
 
 /// The printing program says what the run does, wherever it splits its input
-/// into the same two sheets.
-fn check_printed(call: &Call, answer: Answer, output: &[u8]) {
+/// into the same two sheets, and its journal is not longer where this one was
+/// full.
+fn check_printed(call: &Call, played: &Played) {
     let rule = u8::try_from(call.rule).expect("a rule byte");
     let arguments = join(&[&[rule], &call.budget.to_le_bytes()]);
     let text = print(&join(&[&arguments, &call.store, &call.programme]));
     let text = String::from_utf8(text).expect("plain letters");
     assert!(text.starts_with("end ") && text.ends_with('\n'));
-    if answer.number == 0 || answer.number > 5 {
-        let Answer {
-            number,
-            block,
-            offset,
-            steps,
-        } = answer;
-        let line = format!("end {number} block {block} at {offset} steps {steps}");
-        assert_eq!(text.lines().next(), Some(&line[..]));
-        let slots = if number == 0 {
-            output.len() / OUTPUT_SLOT
-        } else {
-            0
-        };
-        assert_eq!(text.lines().count(), 1 + slots);
+    let Answer {
+        number,
+        block,
+        offset,
+        steps,
+    } = played.answer;
+    let full = number == 18 && call.journal < AMPLE_ENTRIES;
+    if matches!(number, 1..=5) || full {
+        return;
+    }
+    let mut lines = text.lines();
+    let first = format!("end {number} block {block} at {offset} steps {steps}");
+    assert_eq!(lines.next(), Some(&first[..]));
+    if number == 0 {
+        let slots = end_slots(&played.output);
+        assert_eq!(lines.clone().count(), slots.len() + 1);
+        let total = slots.iter().map(|slot| slot.writes).sum::<u32>();
+        assert_eq!(lines.next_back(), Some(&total.to_string()[..]));
+    } else {
+        assert_eq!(lines.next(), None);
     }
 }
 
 /// How often each number was the answer.
-fn tally(calls: impl Iterator<Item = Call>) -> [u32; 18] {
-    let mut counts = [0; 18];
+fn tally(calls: impl Iterator<Item = Call>) -> [u32; NUMBERS] {
+    let mut counts = [0; NUMBERS];
     for call in calls {
         counts[check_contract(&call).number as usize] += 1;
     }
@@ -149,10 +165,10 @@ fn formless_bytes_are_answered() {
         let length = random.below(30);
         let rule = (random.next() as u32) >> (8 * random.below(4));
         let formless = call(&one, &two, rule).budget(random.next() as u32);
-        let (answer, output) = formless.lend(length);
-        assert!(answer.number <= 17);
-        if answer.number != 0 {
-            assert_untouched(&output);
+        let played = formless.journal(random.below(3)).lend(length);
+        assert!((played.answer.number as usize) < NUMBERS);
+        if played.answer.number != 0 {
+            played.assert_untouched();
         }
         assert!(check_store(&one) <= 5);
         assert!(check_table(&two) <= 4);

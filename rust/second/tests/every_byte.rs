@@ -50,7 +50,7 @@ fn a_command_is_known_by_its_first_byte() {
         match COMMANDS.contains(&byte) {
             true if code[..] == skip() => {
                 for call in as_either_block(&code) {
-                    call.finishes(0, &[integer(5), integer(7)]);
+                    call.finishes(0, &[kept(integer(5)), kept(integer(7))]);
                 }
             }
             true => ill_formed(&code, 1),

@@ -54,7 +54,8 @@ fn check_flow(masks: &[u32], flow: &Flow, rule: u32, passes: bool) {
     let code = if_else(slot(2), assign(slot(0), slot(1)), skip());
     let call = call_floored(&store(masks, &slots), region, flow.floor, code, rule);
     if passes {
-        call.finishes(2, &[write_view(3), integer(5), truth(true), integer(5)]);
+        let held = [write_view(3), integer(5), truth(true)].map(kept);
+        call.finishes(2, &[&held[..], &[once(integer(5))]].concat());
     } else {
         call.refused(16, 0, 1 + slot(2).len(), 1);
     }
@@ -83,7 +84,7 @@ fn the_owner_or_the_floor_is_enough() {
 /// number stayed the answer, and how often it did not.
 #[derive(Debug, Default)]
 struct Compared {
-    same: [u32; 18],
+    same: [u32; NUMBERS],
     other: u32,
 }
 
@@ -93,10 +94,11 @@ impl Compared {
     fn count(&mut self, parts: &Parts, altered: &Parts, may_pass: bool) {
         let (was, now) = (parts.call().play(), altered.call().play());
         if was == now {
-            self.same[was.0.number as usize] += 1;
+            self.same[was.answer.number as usize] += 1;
         } else {
-            assert!(may_pass && was.0.number == 16, "{was:?} {now:?}");
-            assert!(was.0.steps < now.0.steps);
+            let (was, now) = (was.answer, now.answer);
+            assert!(may_pass && was.number == 16, "{was:?} {now:?}");
+            assert!(was.steps < now.steps);
             self.other += 1;
         }
     }
@@ -150,7 +152,7 @@ fn unendorsed(parts: &Parts) -> Parts {
 
 /// Whether the run is refused by 16 in an endorsed block.
 fn is_refused_endorsed(parts: &Parts) -> bool {
-    let (answer, _) = parts.call().play();
+    let answer = parts.call().play().answer;
     answer.number == 16 && is_endorsed(&parts.blocks[answer.block as usize])
 }
 

@@ -1,7 +1,7 @@
 //! What slots keep, at random. Under rule 1, and under rule 2, slots that are
 //! protected from an adversary (document 01: a stranger) hold their opening
-//! values, on conditions of which each is needed. Under every rule, a slot that a
-//! block changes is owned at or below the block's region.
+//! values and are not written at all, on conditions of which each is needed. Under
+//! every rule, a slot that a block writes is owned at or below the block's region.
 //!
 //! The runner shows the store of a finished run only. So the first blocks of a
 //! programme are played too, none of them, one, two and so on: that shows the
@@ -19,8 +19,8 @@ use sheets::*;
 /// How many programmes of each kind are played.
 const PROGRAMMES: u64 = 20_000;
 
-/// What the slots hold at the start, and after each block that the run comes
-/// through.
+/// The slots at the start, and after each block that the run comes through:
+/// what they hold, and their counts.
 fn stores(parts: &Parts, rule: u32) -> Vec<Bytes> {
     let whole = parts.call().rule(rule);
     let first = |count: usize| Call {
@@ -28,11 +28,11 @@ fn stores(parts: &Parts, rule: u32) -> Vec<Bytes> {
         ..whole.clone()
     };
     let runs = (0..=parts.blocks.len()).map(|count| first(count).play());
-    let finished = runs.take_while(|(answer, _)| answer.number == 0);
-    finished.map(|(_, store)| store).collect()
+    let finished = runs.take_while(|played| played.answer.number == 0);
+    finished.map(|played| played.output).collect()
 }
 
-/// The slots in which two stores differ.
+/// The slots in which two stores differ, in the value or in the count.
 fn changed(before: &[u8], after: &[u8]) -> Vec<usize> {
     let slots = before.chunks(OUTPUT_SLOT).zip(after.chunks(OUTPUT_SLOT));
     let differ = slots.enumerate().filter(|(_, (one, other))| one != other);

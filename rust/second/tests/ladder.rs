@@ -1,7 +1,8 @@
 //! The rule ladder of document 02, N2, at random: an answer changes from rule 3
-//! to 2 and from 2 to 0 only if it was 16, from 1 to 0 only if it was 15, and
-//! with a larger budget only if it was 17. What it becomes then is what
-//! docs/LADDER.md says: each of that comes up, and nothing else.
+//! to 2 and from 2 to 0 only if it was 16, from 1 to 0 only if it was 15, with a
+//! larger budget only if it was 17, and with a longer journal only if it was 18.
+//! What it becomes then is what docs/LADDER.md says: each of that comes up, and
+//! nothing else.
 
 mod play;
 mod random;
@@ -16,7 +17,7 @@ use sheets::*;
 const CALLS: u64 = 6_000;
 
 /// How often each number was an answer.
-type Counts = [u32; 18];
+type Counts = [u32; NUMBERS];
 
 /// Just these numbers came up.
 #[track_caller]
@@ -28,11 +29,19 @@ fn check_numbers(counts: &Counts, expected: &[usize]) {
 /// Two runs of the same sheets, many times over: what became of an answer.
 #[derive(Default)]
 struct Became {
-    /// Answers that had to stay, with their outputs.
+    /// Answers that had to stay, with their outputs and entries.
     stayed: Counts,
     /// What the others became at the step that was refused, and at a later one.
     here: Counts,
     later: Counts,
+}
+
+/// The same answer, output and entries; one journal may be the longer.
+#[track_caller]
+fn assert_same(one: &Played, other: &Played) {
+    assert_eq!(one.answer, other.answer);
+    assert_eq!(one.output, other.output);
+    assert_eq!(one.entries(), other.entries());
 }
 
 impl Became {
@@ -40,16 +49,16 @@ impl Became {
     /// before are done again, and one more if the refused one is passed.
     fn count(&mut self, own: u32, before: &Call, after: &Call) {
         let (was, now) = (before.play(), after.play());
-        let number = now.0.number as usize;
-        if was.0.number != own {
-            assert_eq!(was, now);
+        let number = now.answer.number as usize;
+        if was.answer.number != own {
+            assert_same(&was, &now);
             self.stayed[number] += 1;
-        } else if was.0.steps == now.0.steps {
+        } else if was.answer.steps == now.answer.steps {
             let place = |answer: Answer| (answer.block, answer.offset);
-            assert_eq!(place(was.0), place(now.0));
+            assert_eq!(place(was.answer), place(now.answer));
             self.here[number] += 1;
         } else {
-            assert!(was.0.steps < now.0.steps);
+            assert!(was.answer.steps < now.answer.steps);
             self.later[number] += 1;
         }
     }
@@ -66,37 +75,37 @@ fn from_rule_to_rule(strict: u32, mild: u32, own: u32) -> Became {
 #[test]
 fn from_3_to_2_only_16_changes() {
     let became = from_rule_to_rule(3, 2, 16);
-    check_numbers(&became.stayed, &[0, 13, 14, 17]);
+    check_numbers(&became.stayed, &[0, 13, 14, 17, 18]);
     check_numbers(&became.here, &[16]);
-    check_numbers(&became.later, &[0, 13, 14, 16, 17]);
+    check_numbers(&became.later, &[0, 13, 14, 16, 17, 18]);
 }
 
 #[test]
 fn from_2_to_0_only_16_changes() {
     let became = from_rule_to_rule(2, 0, 16);
-    check_numbers(&became.stayed, &[0, 13, 14, 17]);
+    check_numbers(&became.stayed, &[0, 13, 14, 17, 18]);
     check_numbers(&became.here, &[]);
-    check_numbers(&became.later, &[0, 13, 14, 17]);
+    check_numbers(&became.later, &[0, 13, 14, 17, 18]);
 }
 
 #[test]
 fn from_1_to_0_only_15_changes() {
     let became = from_rule_to_rule(1, 0, 15);
-    check_numbers(&became.stayed, &[0, 13, 17]);
+    check_numbers(&became.stayed, &[0, 13, 17, 18]);
     check_numbers(&became.here, &[13, 14]);
-    check_numbers(&became.later, &[0, 13, 14, 17]);
+    check_numbers(&became.later, &[0, 13, 14, 17, 18]);
 }
 
 #[test]
 fn from_255_to_3_nothing_changes() {
     let became = from_rule_to_rule(255, 3, u32::MAX);
-    check_numbers(&became.stayed, &[0, 13, 14, 16, 17]);
+    check_numbers(&became.stayed, &[0, 13, 14, 16, 17, 18]);
 }
 
 /// Neither of 1 and 2, nor of 1 and 3, lets through all that the other does.
 #[test]
 fn rule_1_stands_in_no_order_with_2_or_3() {
-    let finishes = |call: &Call, rule| call.rule(rule).play().0.number == 0;
+    let finishes = |call: &Call, rule| call.rule(rule).play().answer.number == 0;
     for other in [2, 3] {
         let only = |one, another| {
             let apart = |call: &Call| finishes(call, one) && !finishes(call, another);
@@ -111,14 +120,14 @@ fn rule_1_stands_in_no_order_with_2_or_3() {
 #[test]
 fn each_rule_gives_its_own_refusals_only() {
     for rule in RULES {
-        let mut counts = [0; 18];
+        let mut counts = [0; NUMBERS];
         for call in calls() {
-            counts[call.rule(rule).play().0.number as usize] += 1;
+            counts[call.rule(rule).play().answer.number as usize] += 1;
         }
         match rule {
-            0 => check_numbers(&counts, &[0, 13, 14, 17]),
-            1 => check_numbers(&counts, &[0, 13, 15, 17]),
-            _ => check_numbers(&counts, &[0, 13, 14, 16, 17]),
+            0 => check_numbers(&counts, &[0, 13, 14, 17, 18]),
+            1 => check_numbers(&counts, &[0, 13, 15, 17, 18]),
+            _ => check_numbers(&counts, &[0, 13, 14, 16, 17, 18]),
         }
     }
 }
@@ -131,14 +140,36 @@ fn a_larger_budget_alters_only_spent_runs() {
             let call = call.rule(rule);
             became.count(17, &call, &call.budget(call.budget + 7));
         }
-        let refusals: &[usize] = match rule {
-            0 => &[13, 14],
-            1 => &[13, 15],
-            _ => &[13, 14, 16],
-        };
-        check_numbers(&became.stayed, &[&[0], refusals].concat());
+        let refusals = refusals_of_steps(rule);
+        check_numbers(&became.stayed, &[&[0], refusals, &[18]].concat());
+        check_numbers(&became.here, &[refusals, &[18]].concat());
+        check_numbers(&became.later, &[&[0], refusals, &[17, 18]].concat());
+    }
+}
+
+/// 18 is judged after 17, so a longer journal does not make a run spent where it
+/// was full; and before the target, so anything of the step may come instead.
+#[test]
+fn a_longer_journal_alters_only_full_ones() {
+    for rule in RULES {
+        let mut became = Became::default();
+        for call in calls() {
+            let call = call.rule(rule);
+            became.count(18, &call, &call.journal(call.journal + 3));
+        }
+        let refusals = refusals_of_steps(rule);
+        check_numbers(&became.stayed, &[&[0], refusals, &[17]].concat());
         check_numbers(&became.here, refusals);
-        check_numbers(&became.later, &[&[0], refusals, &[17]].concat());
+        check_numbers(&became.later, &[&[0], refusals, &[17, 18]].concat());
+    }
+}
+
+/// What a rule refuses steps by, budget and journal apart.
+fn refusals_of_steps(rule: u32) -> &'static [usize] {
+    match rule {
+        0 => &[13, 14],
+        1 => &[13, 15],
+        _ => &[13, 14, 16],
     }
 }
 

@@ -24,9 +24,11 @@ fn given(held: &[Bytes], expression: Bytes) -> Bytes {
     let slots = held.iter().chain([&own]).map(|value| (0, value.clone()));
     let slots: Vec<(u8, Bytes)> = slots.collect();
     let code = set(held.len() as i64, expression);
-    let (answer, output) = call_block(&store(&[1], &slots), 0, code, 3).play();
+    let Played { answer, output, .. } = call_block(&store(&[1], &slots), 0, code, 3).play();
     assert_eq!((answer.number, answer.steps), (0, 1));
-    output[output.len() - OUTPUT_SLOT..].to_vec()
+    let end = end_slots(&output).pop().expect("a slot of its own");
+    assert_eq!(end.writes, 1);
+    end.value
 }
 
 /// The two as literals, as reads, and one of each.
@@ -129,16 +131,17 @@ fn the_label_is_the_meet_of_both() {
                 for byte in OPERATIONS {
                     let value = set(2, operation(byte, slot(0), slot(1)));
                     for rule in [2, 3] {
-                        let (answer, _) = call_block(&sheet, top, value.clone(), rule).play();
+                        let answer = call_block(&sheet, top, value.clone(), rule).play().answer;
                         assert_eq!(answer.number == 0, passes, "{one} {other} {to}");
                         assert!(passes || answer.number == 16);
                     }
                 }
                 let write = || set_integer(2, 9);
                 let guarded = if_else(less_than(slot(0), slot(1)), write(), write());
-                let (answer, _) = call_block(&sheet, top, guarded.clone(), 3).play();
+                let answer = call_block(&sheet, top, guarded.clone(), 3).play().answer;
                 assert_eq!(answer.number == 0, passes, "{one} {other} {to}");
-                assert_eq!(call_block(&sheet, top, guarded, 2).play().0.number, 0);
+                let explicit = call_block(&sheet, top, guarded, 2).play().answer;
+                assert_eq!(explicit.number, 0);
             }
         }
     }
@@ -215,7 +218,7 @@ fn the_first_fault_is_told() {
         // Three operations, each read, around a leaf of two reads: 8 deep.
         let (expression, _) = judged.expression(3);
         let first = judged.places.into_iter().flatten().next();
-        let (answer, _) = call_block(&sheet, 0, set(0, expression), 1).play();
+        let answer = call_block(&sheet, 0, set(0, expression), 1).play().answer;
         assert_eq!(answer.number, first.unwrap_or(0));
         counts[match first {
             Some(13) => 0,

@@ -50,12 +50,12 @@ fn any_payload_is_judged_and_kept() {
         let in_code = call_block(&store(&[1], &slots), 0, code, 3);
         slots[count - 1].1 = tried.clone();
         let in_sheet = call(&store(&[1], &slots), &programme(&[]), 3);
-        let mut end = vec![integer(5); count];
+        let mut end = vec![kept(integer(5)); count];
         if good {
-            end[0] = tried.clone();
+            end[0] = once(tried.clone());
             in_code.finishes(1, &end);
-            end[0] = integer(5);
-            end[count - 1] = tried;
+            end[0] = kept(integer(5));
+            end[count - 1] = kept(tried);
             in_sheet.finishes(0, &end);
         } else {
             in_code.refused(9, 0, 1 + LITERAL + 1, 0);

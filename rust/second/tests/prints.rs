@@ -26,7 +26,7 @@ fn prints_refusal(input: &[u8], number: u32) {
 #[test]
 fn the_stored_files_are_the_example() {
     let example = input(0, 10, &example_store(), &example_programme([0, 1]));
-    let lines = "end 0 block 2 at 0 steps 2\n0 0 0 42\n1 1 0 42\n";
+    let lines = "end 0 block 2 at 0 steps 2\n0 0 0 42 1 2\n1 1 0 42 1 1\n2\n";
     prints(&example, lines);
     assert_eq!(
         include_bytes!("../../../examples/two-blocks.bin")[..],
@@ -92,7 +92,8 @@ fn an_endorsed_block_goes_by_its_floor() {
         let sheet = example_with_floors([0, 0x81], [0, floor]);
         input(3, 10, &example_store(), &sheet)
     };
-    prints(&p5(0), "end 0 block 2 at 0 steps 2\n0 0 0 42\n1 1 0 42\n");
+    let lines = "end 0 block 2 at 0 steps 2\n0 0 0 42 1 2\n1 1 0 42 1 1\n2\n";
+    prints(&p5(0), lines);
     prints(&p5(1), "end 16 block 1 at 0 steps 1\n");
     prints_refusal(&p5(2), 8);
 }
@@ -111,14 +112,15 @@ fn values_of_each_kind_are_printed() {
     ];
     let sheet = store(&PAIR, &slots);
     let lines = "end 0 block 0 at 0 steps 0\n\
-                 0 1 0 -1\n\
-                 1 0 0 -9223372036854775808\n\
-                 2 1 0 9223372036854775807\n\
-                 3 0 1 0\n\
-                 4 1 1 1\n\
-                 5 0 2 7\n\
-                 6 1 3 0\n\
-                 7 0 0 0\n";
+                 0 1 0 -1 0 1\n\
+                 1 0 0 -9223372036854775808 0 2\n\
+                 2 1 0 9223372036854775807 0 1\n\
+                 3 0 1 0 0 2\n\
+                 4 1 1 1 0 1\n\
+                 5 0 2 7 0 2\n\
+                 6 1 3 0 0 1\n\
+                 7 0 0 0 0 2\n\
+                 0\n";
     prints(&input(3, 0, &sheet, &programme(&[])), lines);
 }
 
@@ -138,7 +140,7 @@ fn an_integer_is_printed_whole() {
     for (payload, line) in lines {
         let sheet = store(&[1], &[(0, integer(payload)), (0, integer(0))]);
         let code = programme(&[(0, set_integer(1, payload))]);
-        let text = format!("end 0 block 1 at 0 steps 1\n0 0 0 {line}\n1 0 0 {line}\n");
+        let text = format!("end 0 block 1 at 0 steps 1\n0 0 0 {line} 0 1\n1 0 0 {line} 1 1\n1\n");
         prints(&input(3, 1, &sheet, &code), &text);
     }
 }
@@ -163,21 +165,84 @@ fn the_budget_has_four_bytes_lowest_first() {
 }
 
 #[test]
-fn no_slots_print_no_slot_lines() {
+fn no_slots_print_the_total_only() {
     let sheet = store(&[1], &[]);
-    let lines = "end 0 block 0 at 0 steps 0\n";
+    let lines = "end 0 block 0 at 0 steps 0\n0\n";
     prints(&input(2, 0, &sheet, &programme(&[])), lines);
 }
 
 #[test]
 fn all_256_slots_are_printed() {
     let sheet = store(&[1], &vec![(0, write_view(255)); 256]);
-    let lines: String = (0..256).map(|slot| format!("{slot} 0 3 255\n")).collect();
+    let lines = (0..256).map(|slot| format!("{slot} 0 3 255 0 1\n"));
+    let lines: String = lines.collect();
     let first = "end 0 block 0 at 0 steps 0\n";
     prints(
         &input(0, 0, &sheet, &programme(&[])),
-        &format!("{first}{lines}"),
+        &format!("{first}{lines}0\n"),
     );
+}
+
+/// "how many principals stand at or above its owner" (document 02, N7), the owner
+/// among them. Each principal owns the slot of its number.
+#[test]
+fn principals_at_or_above_the_owner_are_counted() {
+    // 32 in a chain, the top first: each stands above those with greater numbers.
+    let top_first = (0..32).map(|i| u32::MAX << i);
+    let tables = [
+        (vec![1], vec![1]),
+        // Left, right, bottom and top; in the kite the stem too.
+        (DIAMOND.to_vec(), vec![2, 2, 4, 1]),
+        (KITE.to_vec(), vec![2, 2, 5, 1, 4]),
+        (chain(32), (1..=32).rev().collect()),
+        (top_first.collect(), (1..=32).collect()),
+    ];
+    for (masks, above) in tables {
+        let owners = 0..masks.len() as u8;
+        let slots: Vec<(u8, Bytes)> = owners.map(|owner| (owner, truth(true))).collect();
+        let lines = above.iter().enumerate();
+        let lines = lines.map(|(owner, above)| format!("{owner} {owner} 1 1 0 {above}\n"));
+        let lines: String = lines.collect();
+        prints(
+            &input(0, 0, &store(&masks, &slots), &programme(&[])),
+            &format!("end 0 {NO_PLACE}{lines}0\n"),
+        );
+    }
+}
+
+/// Slot 0 is written in each round of a while, slot 1 once before it, by its own
+/// value.
+#[test]
+fn counts_and_their_total_are_printed() {
+    let sheet = store(&PAIR, &[(0, integer(0)), (1, integer(7)), (1, integer(8))]);
+    let add = set(0, sum(slot(0), literal(integer(1))));
+    let rounds = while_do(less_than(slot(0), literal(integer(12))), add);
+    let code = programme(&[(1, set(1, slot(1))), (1, rounds)]);
+    let lines = "end 0 block 2 at 0 steps 26\n\
+                 0 0 0 12 12 2\n\
+                 1 1 0 7 1 1\n\
+                 2 1 0 8 0 1\n\
+                 13\n";
+    prints(&input(3, 1_000, &sheet, &code), lines);
+}
+
+/// "The printing program lends 512 entries" (document 02, N7): the 513th
+/// assignment is refused by 18, after 513 guards and 512 assignments.
+#[test]
+fn the_journal_has_512_entries() {
+    assert_eq!(Input::LENT_ENTRIES, 512);
+    let sheet = store(&[1], &[(0, integer(0))]);
+    let add = set(0, sum(slot(0), literal(integer(1))));
+    let rounds = |count: i64| {
+        let code = while_do(less_than(slot(0), literal(integer(count))), add.clone());
+        input(3, 1_000_000, &sheet, &programme(&[(0, code)]))
+    };
+    let lines = "end 0 block 1 at 0 steps 1025\n0 0 0 512 512 1\n512\n";
+    prints(&rounds(512), lines);
+    // The while's byte and its guard stand before the assignment.
+    let offset = 1 + less_than(slot(0), literal(integer(0))).len();
+    let refused = format!("end 18 block 0 at {offset} steps 1025\n");
+    prints(&rounds(513), &refused);
 }
 
 #[test]

@@ -8,11 +8,13 @@
 
 mod call;
 mod code;
+mod output;
 mod sheet;
 mod value;
 
 pub use crate::call::*;
 pub use crate::code::*;
+pub use crate::output::*;
 pub use crate::sheet::*;
 pub use crate::value::*;
 

@@ -2,11 +2,10 @@
 
 use crate::{join, Bytes};
 
-/// The widths of a payload, a value, a literal and a slot in the output.
+/// The widths of a payload, a value and a literal.
 pub const PAYLOAD: usize = 8;
 pub const VALUE: usize = 1 + PAYLOAD;
 pub const LITERAL: usize = 1 + VALUE;
-pub const OUTPUT_SLOT: usize = VALUE;
 /// The least and the greatest integer that a payload holds.
 pub const LEAST: i64 = i64::MIN;
 pub const GREATEST: i64 = i64::MAX;

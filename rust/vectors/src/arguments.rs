@@ -21,7 +21,8 @@ fn rules() -> Vec<Case> {
             .block(0, set_integer(0, 42))
             .rule(rule)
     };
-    let known = RULES.map(|rule| own_slot(rule).finishes(1, &[integer(42), integer(7)]));
+    let end = [once(integer(42)), kept(integer(7))];
+    let known = RULES.map(|rule| own_slot(rule).finishes(1, &end));
     let unknown = [4, 5, 127, 128, 253, 254].map(|rule| own_slot(rule).refused_early(11));
     // The lowest byte of each is the number of a rule.
     let wide = [256, 257, 258, 259, 511, 1 << 16, 3 << 24 | 3, u32::MAX];
@@ -54,13 +55,13 @@ fn default_rule() -> Vec<Case> {
     vec![
         default("rule 255, a write view is held")
             .block(0, set(0, literal(write_view(1))))
-            .finishes(1, &[write_view(1), integer(7)]),
+            .finishes(1, &[once(write_view(1)), kept(integer(7))]),
         default("rule 255, a low value goes up")
             .programme(example_programme([0, 1]))
             .refused(16, 1, 0, 1),
         default("rule 255, a low value goes up, endorsed")
             .programme(example_programme([0, 0x81]))
-            .finishes(2, &[integer(42), integer(42)]),
+            .finishes(2, &[integer(42), integer(42)].map(once)),
         default("rule 255, the region is judged")
             .block(0, set_integer(1, 9))
             .refused(14, 0, 0, 0),
@@ -90,25 +91,25 @@ fn budgets() -> Vec<Case> {
         endless("budget of four full bytes", u32::MAX).refused_early(11),
         example(0).refused(17, 0, 0, 0),
         example(1).refused(17, 1, 0, 1),
-        example(2).finishes(2, &[integer(42), integer(42)]),
+        example(2).finishes(2, &[integer(42), integer(42)].map(once)),
         case(
             "skips are no steps",
             "A step is one guard judged or one assignment made; nothing else counts.",
         )
         .blocks(&[(0, skip()), (1, sequence(&vec![skip(); 255]))])
         .budget(0)
-        .finishes(0, &[integer(5), integer(7)]),
+        .finishes(0, &[integer(5), integer(7)].map(kept)),
     ]
 }
 
 /// Two slots ask for two slots' bytes, no fewer and no more.
 fn outputs() -> Vec<Case> {
-    let lent = |name, length| case(name, "Output is 9 × m bytes.").output(length);
+    let lent = |name, length| case(name, "so a slot takes 13 bytes").output(length);
     let full = 2 * OUTPUT_SLOT;
     let empty = |draft: Draft| draft.store(store(&[1], &[]));
     let bad_code = "9 or 10 in byte order; 12; run";
     vec![
-        lent("output just so", full).finishes(0, &[integer(5), integer(7)]),
+        lent("output just so", full).finishes(0, &[integer(5), integer(7)].map(kept)),
         lent("output one byte short", full - 1).refused_early(12),
         lent("output one byte long", full + 1).refused_early(12),
         lent("output of no bytes", 0).refused_early(12),

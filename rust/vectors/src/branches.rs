@@ -39,15 +39,17 @@ fn if_parts() -> Vec<Case> {
     vec![
         on_flag("then-part on a low guard", true, &parts, 3).refused(16, 0, HEAD, 1),
         on_flag("else-part on a low guard", false, &parts, 3).refused(16, 0, else_part, 1),
-        on_flag("else-part on a low guard, rule 2", false, &parts, 2)
-            .finishes(2, &[truth(false), integer(42), integer(8)]),
+        on_flag("else-part on a low guard, rule 2", false, &parts, 2).finishes(
+            2,
+            &[kept(truth(false)), once(integer(42)), kept(integer(8))],
+        ),
         on_flag("low slot on a low guard", true, &low, 3)
-            .finishes(2, &[integer(9), integer(7), integer(8)]),
+            .finishes(2, &[once(integer(9)), kept(integer(7)), kept(integer(8))]),
         case("high slot on a high guard", BRANCH)
             .store(high_flag)
             .block(1, on_high)
             .rule(3)
-            .finishes(2, &[integer(5), integer(9), truth(true)]),
+            .finishes(2, &[kept(integer(5)), once(integer(9)), kept(truth(true))]),
     ]
 }
 
@@ -58,36 +60,37 @@ fn bodies() -> Vec<Case> {
     vec![
         on_flag("body on a low guard", true, &body, 3).refused(16, 0, HEAD + 2, 1),
         on_flag("body on a low guard, rule 2", true, &body, 2)
-            .finishes(4, &[truth(false), integer(9), integer(8)]),
+            .finishes(4, &[once(truth(false)), once(integer(9)), kept(integer(8))]),
         on_flag("body not run on a low guard", false, &body, 3)
-            .finishes(1, &[truth(false), integer(7), integer(8)]),
+            .finishes(1, &[truth(false), integer(7), integer(8)].map(kept)),
     ]
 }
 
 /// The misreading "leaving a while body's label behind".
 fn after_parts() -> Vec<Case> {
-    let once = while_do(slot(0), set(0, literal(truth(false))));
+    let one_round = while_do(slot(0), set(0, literal(truth(false))));
     let part = if_else(slot(0), skip(), skip());
     let block = |name, low: bool, code| high_block(name, BACK, truth(low), code).rule(3);
     let up = || set_integer(1, 9);
+    let end = |low| [low, once(integer(9)), kept(integer(8))];
     vec![
-        block("after a while", true, sequence(&[once.clone(), up()]))
-            .finishes(4, &[truth(false), integer(9), integer(8)]),
+        block("after a while", true, sequence(&[one_round.clone(), up()]))
+            .finishes(4, &end(once(truth(false)))),
         block(
             "after a while that did not run",
             false,
-            sequence(&[once.clone(), up()]),
+            sequence(&[one_round.clone(), up()]),
         )
-        .finishes(2, &[truth(false), integer(9), integer(8)]),
+        .finishes(2, &end(kept(truth(false)))),
         block("after a then-part", true, sequence(&[part.clone(), up()]))
-            .finishes(2, &[truth(true), integer(9), integer(8)]),
+            .finishes(2, &end(kept(truth(true)))),
         block("after an else-part", false, sequence(&[part, up()]))
-            .finishes(2, &[truth(false), integer(9), integer(8)]),
+            .finishes(2, &end(kept(truth(false)))),
         case("in the next block", "It is top at a block's start.")
             .store(low_slot(truth(true)))
-            .blocks(&[(1, once), (1, up())])
+            .blocks(&[(1, one_round), (1, up())])
             .rule(3)
-            .finishes(4, &[truth(false), integer(9), integer(8)]),
+            .finishes(4, &end(once(truth(false)))),
     ]
 }
 
@@ -114,13 +117,13 @@ fn after_inner_parts() -> Vec<Case> {
             "after a low if in a high part",
             if_else(slot(2), then_up(low_if()), skip()),
         )
-        .finishes(3, &[truth(true), integer(9), truth(true)]),
+        .finishes(3, &[kept(truth(true)), once(integer(9)), kept(truth(true))]),
         block("after a low if in a low part", in_low).refused(16, 0, after_if, 2),
         block(
             "after a low while in a high body",
             while_do(slot(2), high_rounds),
         )
-        .finishes(7, &[truth(false), integer(9), truth(false)]),
+        .finishes(7, &[truth(false), integer(9), truth(false)].map(once)),
     ]
 }
 
@@ -176,8 +179,8 @@ fn crossed_parts() -> Vec<Case> {
         on_guards(name, guards, to).refused(16, 0, guards.len() * HEAD, steps)
     };
     let passes = |name, guards: &[u8], to: u8| {
-        let mut end = [vec![truth(true); 4], vec![integer(0); 4]].concat();
-        end[4 + usize::from(to)] = integer(3);
+        let mut end = [vec![kept(truth(true)); 4], vec![kept(integer(0)); 4]].concat();
+        end[4 + usize::from(to)] = once(integer(3));
         on_guards(name, guards, to).finishes(guards.len() as u32 + 1, &end)
     };
     vec![
@@ -216,6 +219,7 @@ fn rounds() -> Vec<Case> {
         set(1, literal(truth(false))),
         if_else(slot(2), skip(), skip()),
     ]);
+    let twice = || written(2, truth(false));
     vec![
         case("the second round's label", judged)
             .store(store(&PAIR, &shown))
@@ -226,7 +230,7 @@ fn rounds() -> Vec<Case> {
             .store(store(&PAIR, &flags))
             .block(1, while_do(slot(0), body))
             .rule(3)
-            .finishes(9, &[truth(false), truth(false), truth(true)]),
+            .finishes(9, &[twice(), twice(), kept(truth(true))]),
     ]
 }
 

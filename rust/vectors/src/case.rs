@@ -12,6 +12,27 @@ pub struct Case {
     /// The length of the output that is lent.
     pub output: usize,
     pub expected: Expected,
+    /// The entries of a finished run, where they are worked by hand too.
+    pub entries: Option<Vec<Entry>>,
+}
+
+/// What an assignment fills: "block, offset, slot, old value, new value"
+/// (document 02, N7).
+#[derive(Debug, Clone, PartialEq, Eq)]
+pub struct Entry {
+    pub block: usize,
+    pub offset: usize,
+    pub slot: usize,
+    pub old: Bytes,
+    pub new: Bytes,
+}
+
+impl Case {
+    /// The run fills just these entries.
+    pub fn fills(mut self, entries: Vec<Entry>) -> Case {
+        self.entries = Some(entries);
+        self
+    }
 }
 
 /// "Each answer is number, block, offset, steps."
@@ -42,11 +63,11 @@ fn answer_of(number: u32, block: u32, offset: usize, steps: u32) -> Answer {
 }
 
 /// A run of so many blocks finishes in so many steps with these slots.
-pub fn finished(blocks: usize, steps: u32, end: &[Bytes]) -> Expected {
+pub fn finished(blocks: usize, steps: u32, end: &[EndSlot]) -> Expected {
     let blocks = u32::try_from(blocks).expect("a number of blocks");
     Expected {
         answer: answer_of(0, blocks, 0, steps),
-        end: Some(end.concat()),
+        end: Some(output(end)),
     }
 }
 
@@ -58,9 +79,9 @@ pub fn refused(number: u32, block: u32, offset: usize, steps: u32) -> Expected {
     }
 }
 
-/// A case in the making: document 01's store, no blocks, rule 0, steps
-/// enough and an output of the length that the store sheet asks for, unless
-/// said.
+/// A case in the making: document 01's store, no blocks, rule 0, steps and
+/// entries enough and an output of the length that the store sheet asks for,
+/// unless said.
 #[derive(Clone)]
 pub struct Draft {
     name: String,
@@ -70,6 +91,7 @@ pub struct Draft {
     rule: u32,
     budget: u32,
     output: Option<usize>,
+    journal: usize,
 }
 
 pub fn case(name: impl Into<String>, says: &'static str) -> Draft {
@@ -81,6 +103,7 @@ pub fn case(name: impl Into<String>, says: &'static str) -> Draft {
         rule: 0,
         budget: AMPLE,
         output: None,
+        journal: AMPLE_ENTRIES,
     }
 }
 
@@ -133,8 +156,13 @@ impl Draft {
         self
     }
 
-    /// The run finishes in so many steps with these values in its slots.
-    pub fn finishes(self, steps: u32, end: &[Bytes]) -> Case {
+    pub fn journal(mut self, entries: usize) -> Draft {
+        self.journal = entries;
+        self
+    }
+
+    /// The run finishes in so many steps with these slots.
+    pub fn finishes(self, steps: u32, end: &[EndSlot]) -> Case {
         let blocks = usize::from(self.programme[0]);
         self.ends(finished(blocks, steps, end))
     }
@@ -150,13 +178,16 @@ impl Draft {
     }
 
     pub fn ends(self, expected: Expected) -> Case {
-        let call = call(&self.store, &self.programme, self.rule).budget(self.budget);
+        let call = call(&self.store, &self.programme, self.rule)
+            .budget(self.budget)
+            .journal(self.journal);
         Case {
             name: self.name,
             says: self.says,
             output: self.output.unwrap_or(call.output_bytes()),
             call,
             expected,
+            entries: None,
         }
     }
 }

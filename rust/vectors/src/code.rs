@@ -60,7 +60,7 @@ fn unknown_expressions() -> Vec<Case> {
 
 fn bad_counts() -> Vec<Case> {
     let says = "22 sequence, a count byte 2 to 255, then that many commands";
-    let end = [integer(5), integer(7)];
+    let end = [integer(5), integer(7)].map(kept);
     let inner = vec![0x22, 2, 0x20, 0x22, 1, 0x20];
     vec![
         ill_formed("count 0", says, vec![0x22, 0], 1),

@@ -35,7 +35,7 @@ fn past(name: &str, code: Bytes, offset: usize) -> Case {
 fn passes(name: &str, code: Bytes, steps: u32) -> Case {
     case(name, DEEP)
         .block(0, code)
-        .finishes(steps, &[integer(5), integer(7)])
+        .finishes(steps, &[integer(5), integer(7)].map(kept))
 }
 
 /// `depth` commands in all, each but the innermost made by `around`.
@@ -156,8 +156,9 @@ fn ladder() -> Vec<(u8, Bytes)> {
 const ROW: &str = "At most 8 bytes 11 stand in a row in one expression.";
 
 fn too_many_reads() -> Vec<Case> {
-    let mut end: Vec<Bytes> = ladder().into_iter().map(|(_, value)| value).collect();
-    end[8] = write_view(8);
+    let values = ladder().into_iter().map(|(_, value)| value);
+    let mut end: Vec<EndSlot> = values.map(kept).collect();
+    end[8] = once(write_view(8));
     let ninth = |name, code| refused(name, ROW, code, 10, 1 + 8);
     let second = [(0, skip()), (0, while_do(reads(9, 0), skip()))];
     let mirror = store(&[1], &[(0, read_view(0)), (0, integer(7))]);
@@ -170,7 +171,7 @@ fn too_many_reads() -> Vec<Case> {
         case("8 reads in each of two commands", ROW)
             .store(mirror)
             .block(0, twice)
-            .finishes(2, &[read_view(0), read_view(0)]),
+            .finishes(2, &[kept(read_view(0)), written(2, read_view(0))]),
         ninth("9 reads in a while's guard", while_do(reads(9, 0), skip())),
         ninth(
             "9 reads in an if's guard",

@@ -88,7 +88,10 @@ fn from_3_to_2() -> Vec<Case> {
         under(
             [3, 2],
             flagged(case("D1", FROM_3)).block(1, branches()),
-            [branch(), finished(1, 2, &[truth(true), integer(41)])],
+            [
+                branch(),
+                finished(1, 2, &[kept(truth(true)), once(integer(41))]),
+            ],
         ),
         then("D2", 1, no_guard(), refused(13, 1, 0, 2)),
         then("D3", 0, raise(), refused(14, 1, 0, 2)),
@@ -118,7 +121,7 @@ fn from_2_to_0() -> Vec<Case> {
             case("D7", FROM_2_AND_1).programme(example_programme([0, 1])),
             [
                 refused(16, 1, 0, 1),
-                finished(2, 2, &[integer(42), integer(42)]),
+                finished(2, 2, &[integer(42), integer(42)].map(once)),
             ],
         ),
         then("D8", 1, no_guard(), refused(13, 1, 0, 1)),
@@ -147,7 +150,7 @@ fn from_1_to_0() -> Vec<Case> {
         alone(
             "D11",
             keep_view(),
-            finished(1, 1, &[write_view(1), integer(7)]),
+            finished(1, 1, &[once(write_view(1)), kept(integer(7))]),
         ),
         alone("D12", read_through, refused(13, 0, 0, 0)),
         then("D13", no_guard(), refused(13, 1, 0, 1)),
@@ -173,7 +176,7 @@ fn larger_budgets() -> Vec<Case> {
             case("D17", LARGER).block(0, never),
             [
                 refused(17, 0, 0, 0),
-                finished(1, 1, &[integer(5), integer(7)]),
+                finished(1, 1, &[integer(5), integer(7)].map(kept)),
             ],
         ),
         first("D18", 0, no_guard(), refused(13, 0, 0, 0)),
@@ -199,12 +202,12 @@ fn larger_budgets() -> Vec<Case> {
 fn unordered() -> Vec<Case> {
     let says = "Digs change rule sets.";
     let value_goes_up = |name, rules| {
-        let end = finished(2, 2, &[integer(42), integer(42)]);
+        let end = finished(2, 2, &[integer(42), integer(42)].map(once));
         let example = case(name, says).programme(example_programme([0, 1]));
         under(rules, example, [end, refused(16, 1, 0, 1)])
     };
     let view_is_kept = |name, rules| {
-        let end = finished(1, 1, &[write_view(1), integer(7)]);
+        let end = finished(1, 1, &[once(write_view(1)), kept(integer(7))]);
         let example = case(name, says).block(0, keep_view());
         under(rules, example, [end, refused(15, 0, 0, 0)])
     };

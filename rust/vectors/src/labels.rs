@@ -23,7 +23,7 @@ const RELIABLE: &str =
     "unless the block is endorsed the labels of target and value both stand at or above the owner";
 
 /// Refused by 16 at its first step, unless it passes and finishes in that step.
-pub fn passes_or_16(block: Draft, passes: bool, end: &[Bytes]) -> Case {
+pub fn passes_or_16(block: Draft, passes: bool, end: &[EndSlot]) -> Case {
     if passes {
         block.finishes(1, end)
     } else {
@@ -52,12 +52,12 @@ fn literals() -> Vec<Case> {
             .block(region, code)
             .rule(3)
     };
-    let (nine, seven) = (integer(9), integer(7));
+    let up = [once(integer(9)), kept(integer(7))];
     vec![
-        reversed("top 0: a literal goes up", 0, set_integer(0, 9)).finishes(1, &[nine, seven]),
+        reversed("top 0: a literal goes up", 0, set_integer(0, 9)).finishes(1, &up),
         reversed("top 0: a low value goes up", 0, set(0, slot(1))).refused(16, 0, 0, 0),
         reversed("top 0: a high value goes down", 0, set(1, slot(0)))
-            .finishes(1, &[integer(5), integer(5)]),
+            .finishes(1, &[kept(integer(5)), once(integer(5))]),
         reversed("top 0: 1 writes 0", 1, set_integer(0, 9)).refused(14, 0, 0, 0),
     ]
 }
@@ -67,15 +67,15 @@ fn values_and_targets() -> Vec<Case> {
     let through = || assign(slot(0), literal(integer(9)));
     vec![
         block("a literal goes up", integer(5), set_integer(1, 9))
-            .finishes(1, &[integer(5), integer(9), integer(8)]),
+            .finishes(1, &[kept(integer(5)), once(integer(9)), kept(integer(8))]),
         block(
             "a high value goes to a high slot",
             integer(5),
             set(1, slot(2)),
         )
-        .finishes(1, &[integer(5), integer(8), integer(8)]),
+        .finishes(1, &[kept(integer(5)), once(integer(8)), kept(integer(8))]),
         block("a high value goes down", integer(5), set(0, slot(2)))
-            .finishes(1, &[integer(8), integer(7), integer(8)]),
+            .finishes(1, &[once(integer(8)), kept(integer(7)), kept(integer(8))]),
         block("a low value goes up", integer(5), set(1, slot(0))).refused(16, 0, 0, 0),
         block("a low target is high", write_view(1), through()).refused(16, 0, 0, 0),
         block("a low target is high, rule 3", write_view(1), through())
@@ -83,9 +83,12 @@ fn values_and_targets() -> Vec<Case> {
             .refused(16, 0, 0, 0),
         block("a low target is high, rule 0", write_view(1), through())
             .rule(0)
-            .finishes(1, &[write_view(1), integer(9), integer(8)]),
+            .finishes(
+                1,
+                &[kept(write_view(1)), once(integer(9)), kept(integer(8))],
+            ),
         block("a low target is low", write_view(0), through())
-            .finishes(1, &[integer(9), integer(7), integer(8)]),
+            .finishes(1, &[once(integer(9)), kept(integer(7)), kept(integer(8))]),
     ]
 }
 
@@ -106,8 +109,8 @@ fn flows() -> Vec<Case> {
         .flat_map(|rule| OWNERS.map(|to| (rule, to)))
     {
         let end = |value| {
-            let mut end = integers.clone();
-            end[usize::from(to)] = value;
+            let mut end = integers.clone().map(kept);
+            end[usize::from(to)] = once(value);
             end
         };
         let name = format!("a literal to {}, rule {rule}", name_of(to));
@@ -124,7 +127,7 @@ fn flows() -> Vec<Case> {
 
 /// The target is read from a slot of each principal, and is left's slot.
 fn targets() -> Vec<Case> {
-    let end = [write_view(1), integer(1)];
+    let end = [kept(write_view(1)), once(integer(1))];
     let cases = [2, 3].into_iter().flat_map(|rule| {
         let end = end.clone();
         OWNERS.map(|from| {
@@ -158,14 +161,14 @@ fn chains() -> Vec<Case> {
             .rule(2)
     };
     let by_high = [integer(5), integer(7), read_view(1)];
+    let end = [&by_high.clone().map(kept)[..], &[once(integer(7))]].concat();
     let to_low = [integer(5), integer(7), read_view(0)];
     let by_low = case("a chain by a low view", says)
         .store(low_slot(read_view(2)))
         .block(1, set(1, reads(2, 0)))
         .rule(2);
     vec![
-        chain("a chain of high slots", by_high)
-            .finishes(1, &[integer(5), integer(7), read_view(1), integer(7)]),
+        chain("a chain of high slots", by_high).finishes(1, &end),
         chain("a chain to a low slot", to_low).refused(16, 0, 0, 0),
         by_low.refused(16, 0, 0, 0),
     ]
@@ -202,7 +205,7 @@ fn meets() -> Vec<Case> {
         (LEFT, TOP, LEFT),
         (TOP, LEFT, LEFT),
     ];
-    let end = [read_view(1), integer(5), integer(5)];
+    let end = [kept(read_view(1)), kept(integer(5)), once(integer(5))];
     let mut cases = Vec::new();
     for (first, second, meet) in meets {
         for to in OWNERS {
@@ -237,11 +240,13 @@ fn endorsed() -> Vec<Case> {
     };
     vec![
         spared("endorsed value", integer(5), copy.clone(), 2)
-            .finishes(1, &[integer(5), integer(5), integer(8)]),
-        spared("endorsed target", write_view(1), through, 3)
-            .finishes(1, &[write_view(1), integer(9), integer(8)]),
+            .finishes(1, &[kept(integer(5)), once(integer(5)), kept(integer(8))]),
+        spared("endorsed target", write_view(1), through, 3).finishes(
+            1,
+            &[kept(write_view(1)), once(integer(9)), kept(integer(8))],
+        ),
         spared("endorsed branch", truth(true), branch, 3)
-            .finishes(2, &[truth(true), integer(9), integer(8)]),
+            .finishes(2, &[kept(truth(true)), once(integer(9)), kept(integer(8))]),
         up(0, 14),
         up(1, 15),
         up(2, 14),
@@ -262,6 +267,7 @@ fn endorsed_in_all() -> Vec<Case> {
     let cases = [2, 3].into_iter().flat_map(|rule| {
         let name = format!("low guard and value, rule {rule}");
         let endorsed = format!("{name}, endorsed");
+        let end = [kept(truth(true)), once(truth(true)), kept(integer(8))];
         let block = |name, region| {
             case(name, RELIABLE)
                 .store(low_slot(truth(true)))
@@ -270,7 +276,7 @@ fn endorsed_in_all() -> Vec<Case> {
         };
         [
             block(name, 1).refused(16, 0, place, 1),
-            block(endorsed, 0x81).finishes(2, &[truth(true), truth(true), integer(8)]),
+            block(endorsed, 0x81).finishes(2, &end),
         ]
     });
     cases.collect()
@@ -282,6 +288,7 @@ fn endorsed_in_all() -> Vec<Case> {
 fn not_kept() -> Vec<Case> {
     let lift = [(0x81, set(1, slot(0))), (1, set(2, slot(1)))];
     let sink = [(1, set(0, slot(1))), (1, set(2, slot(0)))];
+    let end = [kept(integer(5)), once(integer(5)), once(integer(5))];
     let cases = [2, 3].into_iter().flat_map(|rule| {
         let block = |what: &str, blocks| {
             case(
@@ -293,7 +300,7 @@ fn not_kept() -> Vec<Case> {
             .rule(rule)
         };
         [
-            block("lifted", &lift).finishes(2, &[integer(5), integer(5), integer(5)]),
+            block("lifted", &lift).finishes(2, &end),
             block("sunk", &sink).refused(16, 1, 0, 1),
         ]
     });

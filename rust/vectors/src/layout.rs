@@ -14,8 +14,8 @@ pub fn list_bytes(cases: &[Case]) -> Bytes {
     join(&[&count, &cases.concat()])
 }
 
-/// Mark, length of the name, rule, budget, lengths of output, store sheet and
-/// programme sheet; then the name and the sheets.
+/// Mark, length of the name, rule, budget, lengths of output, journal, store
+/// sheet and programme sheet; then the name and the sheets.
 fn case_bytes(case: &Case) -> Bytes {
     let name = case.name.as_bytes();
     let call = &case.call;
@@ -25,6 +25,7 @@ fn case_bytes(case: &Case) -> Bytes {
         &call.rule.to_le_bytes(),
         &call.budget.to_le_bytes(),
         &two_bytes(case.output),
+        &two_bytes(call.journal),
         &two_bytes(call.store.len()),
         &two_bytes(call.programme.len()),
         name,

@@ -18,6 +18,7 @@ mod depth;
 mod descents;
 mod diamond;
 mod floors;
+mod journals;
 mod labels;
 mod operations;
 mod payloads;

@@ -2,8 +2,8 @@
 
 use crate::case::Case;
 use crate::{
-    arguments, branches, code, depth, descents, floors, labels, operations, paper, payloads,
-    programme_sheets, steps, store_sheets, views, worked_examples,
+    arguments, branches, code, depth, descents, floors, journals, labels, operations, paper,
+    payloads, programme_sheets, steps, store_sheets, views, worked_examples,
 };
 
 pub fn cases() -> Vec<Case> {
@@ -22,6 +22,7 @@ pub fn cases() -> Vec<Case> {
         payloads::cases(),
         operations::cases(),
         floors::cases(),
+        journals::cases(),
         paper::cases(),
     ]
     .into_iter()

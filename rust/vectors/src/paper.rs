@@ -107,7 +107,7 @@ fn name_a_high_output() -> Bytes {
 
 /// ⊥{•} ∘ ⊤{!R rO := compile(!R rS)}. Slots: rS, rO, r.
 fn compiler_service() -> Example {
-    let end = [integer(42), write_view(2), integer(42)];
+    let end = [integer(42), write_view(2), integer(42)].map(once);
     Example {
         says: "Example 1 (Compiler service, simplified)",
         slots: vec![(LOW, integer(1)), (LOW, integer(0)), (HIGH, integer(7))],
@@ -123,7 +123,7 @@ fn compiler_service() -> Example {
 
 /// ⊥{•} ∘ ⊤{W r := !R r'}, the adversary W r' := 42. Slots: r', r.
 fn value_attack() -> Example {
-    let end = [integer(42), integer(42)];
+    let end = [integer(42), integer(42)].map(once);
     Example {
         says: "Example 2 (Value attack)",
         slots: vec![(LOW, integer(5)), (HIGH, integer(7))],
@@ -147,7 +147,7 @@ const THEN_PART: usize = 1 + 1 + LITERAL;
 
 /// ⊥{•} ∘ ⊤{if !R rA then ..}, the adversary W rA := tt. Slots: rA, rH.
 fn implicit_influence() -> Example {
-    let end = [truth(true), integer(41)];
+    let end = [truth(true), integer(41)].map(once);
     Example {
         says: "Example 3 (Implicit influence)",
         slots: vec![(LOW, truth(false)), (HIGH, integer(7))],
@@ -164,7 +164,7 @@ fn implicit_influence() -> Example {
 /// ⊥{•} ∘ ⊤{!R rA := !R r'A}, the adversary W r'A := 42, and rA holding W rH
 /// from the start. Slots: rA, r'A, rH.
 fn initial_heap_attack() -> Example {
-    let end = [write_view(2), integer(42), integer(42)];
+    let end = [kept(write_view(2)), once(integer(42)), once(integer(42))];
     Example {
         says: "Example 4 (Initial heap attack)",
         slots: vec![(LOW, write_view(2)), (LOW, integer(5)), (HIGH, integer(7))],
@@ -200,7 +200,7 @@ fn service_blocks(adversary: Bytes) -> Vec<(u8, Bytes)> {
 
 /// Rejected by the compiler's block, not by the endorsed one.
 fn compiler_service_with_billing() -> Example {
-    let end = [integer(42), write_view(2), integer(42), integer(42)];
+    let end = [integer(42), write_view(2), integer(42), integer(42)].map(once);
     Example {
         says: "Example 5 (Compiler service)",
         slots: service_slots(),
@@ -217,7 +217,7 @@ fn compiler_service_with_billing() -> Example {
 /// ⊥{•} ∘ ⊤{W r := 1}, with an adversary that works out a high reference.
 /// Slots: one of the adversary's, r.
 fn constant() -> Example {
-    let end = [write_view(1), integer(1)];
+    let end = [write_view(1), integer(1)].map(once);
     Example {
         says: "Example 6: simply writes 1 to the reference r",
         slots: vec![(LOW, integer(5)), (HIGH, integer(7))],
@@ -236,7 +236,7 @@ fn constant() -> Example {
 
 /// ⊤{W r := !R rL}, rL holding W rH. Slots: r, rL, rH.
 fn copy_of_view(says: &'static str, owner: u8) -> Example {
-    let end = [write_view(2), write_view(2), integer(7)];
+    let end = [once(write_view(2)), kept(write_view(2)), kept(integer(7))];
     Example {
         says,
         slots: vec![
@@ -260,7 +260,7 @@ fn low_copy() -> Example {
 /// ρ{W rH := !R rL}, ρ at or above rH's owner, which is above rL's. Slots:
 /// rL, rH.
 fn copy_up() -> Example {
-    let end = [integer(5), integer(5)];
+    let end = [kept(integer(5)), once(integer(5))];
     Example {
         says: "Example 8: EPs will stop this context, Cs will allow it",
         slots: vec![(LOW, integer(5)), (HIGH, integer(7))],
@@ -286,7 +286,7 @@ fn high_copy() -> Example {
 
 /// ρ{if !R rA then W rH := 41 else W rH := 42}. Slots: rA, rH.
 fn branch() -> Example {
-    let end = [truth(true), integer(41)];
+    let end = [kept(truth(true)), once(integer(41))];
     Example {
         says: "Example 10: FPs will stop this program, EPs will allow it",
         slots: vec![(LOW, truth(true)), (HIGH, integer(7))],
@@ -303,6 +303,13 @@ fn branch() -> Example {
 /// What the paper says of the same contexts besides the table.
 fn further() -> Vec<Case> {
     let honest = sequence(&[set(1, literal(write_view(1))), set_integer(0, 42)]);
+    // The caller's slot 1 gets the view of itself, and then the result.
+    let end = [
+        once(integer(42)),
+        written(2, integer(42)),
+        kept(integer(7)),
+        once(integer(42)),
+    ];
     let service = |rule: u32| {
         case(
             format!("paper-05 with an honest caller, rule {rule}"),
@@ -311,7 +318,7 @@ fn further() -> Vec<Case> {
         .store(store(&PAIR, &service_slots()))
         .blocks(&service_blocks(honest.clone()))
         .rule(rule)
-        .finishes(4, &[integer(42), integer(42), integer(7), integer(42)])
+        .finishes(4, &end)
     };
     let mut cases: Vec<Case> = [0, 1, 2, 3].map(service).into();
     cases.push(
@@ -321,7 +328,7 @@ fn further() -> Vec<Case> {
         )
         .blocks(&[(LOW, skip()), (HIGH, set_integer(1, 1))])
         .rule(1)
-        .finishes(1, &[integer(5), integer(1)]),
+        .finishes(1, &[kept(integer(5)), once(integer(1))]),
     );
     cases.extend(theorem_5());
     cases
@@ -350,8 +357,8 @@ fn theorem_5() -> [Case; 3] {
         .rule(rule)
     };
     [
-        run(true, 2).finishes(4, &[truth(true), integer(41), write_view(1)]),
-        run(false, 2).finishes(4, &[truth(false), integer(42), write_view(1)]),
+        run(true, 2).finishes(4, &[truth(true), integer(41), write_view(1)].map(once)),
+        run(false, 2).finishes(4, &[truth(false), integer(42), write_view(1)].map(once)),
         run(true, 3).refused(16, 2, THEN_PART, 3),
     ]
 }

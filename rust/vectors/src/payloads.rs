@@ -6,7 +6,7 @@ use crate::case::{case, Case};
 use sheets::*;
 
 pub fn cases() -> Vec<Case> {
-    let mut cases = kept();
+    let mut cases = whole_integers();
     cases.extend(lowest());
     cases.extend(bad_in_sheets());
     cases.extend(bad_in_code());
@@ -20,7 +20,7 @@ const WIDTHS: &str = "A payload becomes 8 bytes and a value 9, in sheets, code a
 
 /// Slot 0 keeps what the sheet says, slot 1 gets a literal, slot 2 a copy of
 /// slot 0.
-fn kept() -> Vec<Case> {
+fn whole_integers() -> Vec<Case> {
     let signed = "Integers are signed 64-bit.";
     let integers = [
         (LEAST, signed),
@@ -39,10 +39,12 @@ fn kept() -> Vec<Case> {
     ];
     let case_of = |(payload, says)| {
         let slots = [(0, integer(payload)), (0, integer(7)), (0, integer(8))];
+        let [sheet_s, literal_s, copy] = [payload; 3].map(integer);
+        let end = [kept(sheet_s), once(literal_s), once(copy)];
         case(format!("kept {payload}"), says)
             .store(store(&[1], &slots))
             .block(0, sequence(&[set_integer(1, payload), set(2, slot(0))]))
-            .finishes(2, &[integer(payload), integer(payload), integer(payload)])
+            .finishes(2, &end)
     };
     integers.map(case_of).into()
 }
@@ -56,7 +58,7 @@ fn lowest() -> Vec<Case> {
             case(format!("kind {kind}, payload {payload}"), WIDTHS)
                 .store(store(&[1], &[(0, good.clone()), (0, integer(7))]))
                 .block(0, set(1, literal(good.clone())))
-                .finishes(1, &[good.clone(), good])
+                .finishes(1, &[kept(good.clone()), once(good)])
         })
     };
     (0..4).flat_map(of_kind).collect()
@@ -186,7 +188,7 @@ fn values_of_five_bytes() -> Vec<Case> {
         case("while with a guard of 5 bytes", WIDTHS)
             .block(0, hex("24 10 0100000000 20"))
             .refused(9, 0, 8, 0),
-        case("output of 5 bytes a slot", "Output is 9 × m bytes.")
+        case("output of 5 bytes a slot", WIDTHS)
             .programme(example_programme([0, 1]))
             .output(2 * 5)
             .refused_early(12),
@@ -196,10 +198,11 @@ fn values_of_five_bytes() -> Vec<Case> {
 /// Each byte of a slot's payload is the slot's number; slot 0 gets a copy of slot
 /// 255.
 fn all_slots() -> Case {
-    let mut end: Vec<Bytes> = (0..=255).map(|i| join(&[&[0], &[i; 8]])).collect();
-    let slots: Vec<(u8, Bytes)> = end.iter().map(|value| (0, value.clone())).collect();
-    end[0] = end[255].clone();
-    case("256 slots, each of its own bytes", "Output is 9 × m bytes.")
+    let value = |i| join(&[&[0], &[i; 8]]);
+    let slots: Vec<(u8, Bytes)> = (0..=255).map(|i| (0, value(i))).collect();
+    let mut end: Vec<EndSlot> = (0..=255).map(|i| kept(value(i))).collect();
+    end[0] = once(value(255));
+    case("256 slots, each of its own bytes", WIDTHS)
         .store(store(&[1], &slots))
         .block(0, set(0, slot(255)))
         .rule(3)

@@ -19,8 +19,8 @@ pub fn cases() -> Vec<Case> {
     cases
 }
 
-fn opening() -> [Bytes; 2] {
-    [integer(5), integer(7)]
+fn opening() -> [EndSlot; 2] {
+    [integer(5), integer(7)].map(kept)
 }
 
 fn lengths() -> Vec<Case> {
@@ -156,7 +156,7 @@ fn starts() -> Vec<Case> {
     vec![
         case("64 lengths")
             .blocks(&blocks)
-            .finishes(64, &(0..64).map(integer).collect::<Vec<_>>()),
+            .finishes(64, &(0..64).map(|i| once(integer(i))).collect::<Vec<_>>()),
         case("64 lengths, the last block ill-formed")
             .blocks(&last(sequence(&[skip(), vec![0x1F]])))
             .refused(9, 63, 3, 0),
@@ -213,8 +213,8 @@ fn full_size() -> Case {
     let mut last = vec![skip(); rest];
     last.push(write);
     blocks.push((31, sequence(&last)));
-    let mut end = vec![integer(7); 256];
-    end[255] = integer(-1);
+    let mut end = vec![kept(integer(7)); 256];
+    end[255] = once(integer(-1));
     case("all at its limit", "The limits and rule numbers stand once")
         .store(store(&chain(32), &slots))
         .blocks(&blocks)

@@ -1,8 +1,8 @@
 //! Steps that are forbidden, and where: 13, 14 and 17, and the order in which a
 //! step is judged. Those of 15 stand in `views`, those of 16 in `labels` and
-//! `branches`.
+//! `branches`, those of 18 in `journals`.
 //!
-//! No number from 1 to 17 is without a case. Some cannot come up under some
+//! No number from 1 to 18 is without a case. Some cannot come up under some
 //! rules: 14 under rule 1, which judges write views instead; 15 under the
 //! others; 16 under rules 0 and 1, which judge no labels.
 
@@ -75,18 +75,20 @@ fn right_kinds() -> Vec<Case> {
     let read_through = set(1, read(slot(2)));
     let written_through = assign(slot(3), literal(integer(1)));
     let guarded = while_do(slot(1), set(1, literal(truth(false))));
-    let views = || [read_view(0), write_view(0)];
-    let end = |first, second| [vec![first, second], views().into()].concat();
-    let read = end(integer(5), integer(5));
-    let written = end(integer(1), truth(true));
-    let judged = end(integer(5), truth(false));
+    let end = |first, second| {
+        let views = [read_view(0), write_view(0)].map(kept);
+        [vec![first, second], views.into()].concat()
+    };
+    let read = end(kept(integer(5)), once(integer(5)));
+    let through = end(once(integer(1)), kept(truth(true)));
+    let judged = end(kept(integer(5)), once(truth(false)));
     let commands = [
         ("a slot's read view is read", read_through, 1, read),
         (
             "a slot's write view is written",
             written_through,
             1,
-            written,
+            through,
         ),
         ("a slot's truth value is a guard", guarded, 3, judged),
     ];
@@ -163,8 +165,8 @@ fn authority() -> Vec<Case> {
     let mut cases = Vec::new();
     for rule in RULES {
         cases.extend(may.map(|(name, region, target)| {
-            let mut end = diamond_values();
-            end[target] = integer(9);
+            let mut end = diamond_values().map(kept);
+            end[target] = once(integer(9));
             writes(name, region, target, rule).finishes(1, &end)
         }));
         let number = if rule == 1 { 15 } else { 14 };
@@ -276,10 +278,10 @@ fn counted() -> Vec<Case> {
     vec![
         one(1).refused(17, 0, body, 1),
         one(2).refused(17, 0, 0, 2),
-        one(3).finishes(3, &[truth(false), truth(true)]),
+        one(3).finishes(3, &[once(truth(false)), kept(truth(true))]),
         two(4).refused(17, 0, body + 2, 4),
         two(6).refused(17, 0, 0, 6),
-        two(7).finishes(7, &[truth(false), truth(false)]),
+        two(7).finishes(7, &[written(2, truth(false)), written(2, truth(false))]),
     ]
 }
 
@@ -290,7 +292,7 @@ fn present_values() -> Vec<Case> {
         case(name, "23 if, guard, then-part, else-part")
             .block(0, if_else(literal(truth(holds)), then_part, else_part))
             .rule(3)
-            .finishes(2, &[integer(end), integer(7)])
+            .finishes(2, &[once(integer(end)), kept(integer(7))])
     };
     vec![
         case(
@@ -298,7 +300,7 @@ fn present_values() -> Vec<Case> {
             "a read needs a read view and gives that slot's present value",
         )
         .block(1, copies)
-        .finishes(3, &[integer(8), integer(8)]),
+        .finishes(3, &[written(2, integer(8)), once(integer(8))]),
         choice("an if of true", true, 41),
         choice("an if of false", false, 42),
     ]

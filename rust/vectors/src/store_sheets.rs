@@ -53,11 +53,11 @@ fn lengths() -> Vec<Case> {
 /// n is 1 to 32, m is 0 to 256; both are judged before the total length.
 fn sizes() -> Vec<Case> {
     let sheet = |name, sheet| case(name, "2 n or m outside its limit").store(sheet);
-    let zeros = vec![integer(0); 256];
+    let zeros = vec![kept(integer(0)); 256];
     let slots = |count| vec![(0, integer(0)); count];
     vec![
         sheet("n 0", store(&[], &[])).refused_early(2),
-        sheet("n 32", store(&chain(32), &[(31, integer(5))])).finishes(0, &[integer(5)]),
+        sheet("n 32", store(&chain(32), &[(31, integer(5))])).finishes(0, &[kept(integer(5))]),
         sheet("n 33", store(&[0; 33], &[])).refused_early(2),
         sheet("n 0, no more bytes", vec![0, 0, 0]).refused_early(2),
         sheet("n 33, no more bytes", vec![33, 0, 0]).refused_early(2),
@@ -135,7 +135,7 @@ fn owners() -> Vec<Case> {
     let below = "4 owner not below n";
     let order = "then slot by slot 4 before 5";
     vec![
-        pair("owner n - 1", below, &[(1, integer(0))]).finishes(0, &[integer(0)]),
+        pair("owner n - 1", below, &[(1, integer(0))]).finishes(0, &[kept(integer(0))]),
         pair("owner n", below, &[(2, integer(0))]).refused_early(4),
         pair("owner 80", below, &[(0, integer(0)), (0x80, integer(0))]).refused_early(4),
         pair("owner FF", below, &[(0, integer(0)), (0xFF, integer(0))]).refused_early(4),
@@ -167,12 +167,13 @@ fn good_values() -> Vec<Case> {
             "A payload becomes 8 bytes and a value 9, in sheets, code and output.",
             value.clone(),
         )
-        .finishes(0, &[value])
+        .finishes(0, &[kept(value)])
     };
     let last_of = |name, count: usize, view: Bytes| {
-        let mut end = vec![integer(0); count];
-        end[count / 2] = view;
-        let slots: Vec<(u8, Bytes)> = end.iter().map(|value| (0, value.clone())).collect();
+        let mut values = vec![integer(0); count];
+        values[count / 2] = view;
+        let slots: Vec<(u8, Bytes)> = values.iter().map(|value| (0, value.clone())).collect();
+        let end: Vec<EndSlot> = values.into_iter().map(kept).collect();
         case(name, "payload a slot number below m")
             .store(store(&[1], &slots))
             .finishes(0, &end)

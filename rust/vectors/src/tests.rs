@@ -4,15 +4,61 @@
 use std::collections::BTreeSet;
 use std::fs;
 
-use second_runner::{check_store, run};
-use sheets::{integer, read_view, store, Call};
+use second_runner::{check_store, run, Entry, Value};
+use sheets::{
+    end_slots, integer, kept, read_view, store, written, AMPLE_ENTRIES, OUTPUT_SLOT, RULES,
+};
 
-use crate::case::{case, Answer, Case};
+use crate::case::{self, case, Answer, Case};
 use crate::paper::{self, Verdict};
 use crate::{file, layout, list, LINES, LIST};
 
-/// What an output holds before the call.
+/// What an output and a journal hold before the call. No value has that kind, so
+/// no entry that a run fills is as it was lent.
 const LENT: u8 = 0xEE;
+const LENT_VALUE: Value = Value {
+    kind: LENT,
+    payload: u64::MAX / 3,
+};
+const LENT_ENTRY: Entry = Entry {
+    block: usize::MAX,
+    offset: usize::MAX,
+    slot: usize::MAX,
+    old: LENT_VALUE,
+    new: LENT_VALUE,
+};
+
+/// What the second runner makes of a case: the answer, and what was lent.
+struct Played {
+    answer: Answer,
+    output: Vec<u8>,
+    journal: Vec<Entry>,
+}
+
+fn play(case: &Case) -> Played {
+    let call = &case.call;
+    let mut output = vec![LENT; case.output];
+    let mut journal = vec![LENT_ENTRY; call.journal];
+    let given = run(
+        &call.store,
+        &call.programme,
+        call.rule,
+        call.budget,
+        &mut output,
+        &mut journal,
+    );
+    let answer = Answer {
+        number: given.number,
+        block: given.block,
+        offset: given.offset,
+        steps: given.steps,
+    };
+    Played {
+        answer,
+        output,
+        journal,
+    }
+}
 
 fn numbers() -> BTreeSet<u32> {
     let cases = list::cases();
@@ -30,25 +76,60 @@ fn case_named<'a>(cases: &'a [Case], name: &str) -> &'a Case {
 #[test]
 fn the_second_runner_answers_each_case_as_the_list_says() {
     for case in list::cases() {
-        let Call {
-            store,
-            programme,
-            rule,
-            budget,
-        } = &case.call;
-        let lent = vec![LENT; case.output];
-        let mut output = lent.clone();
-        let given = run(store, programme, *rule, *budget, &mut output);
-        let answer = Answer {
-            number: given.number,
-            block: given.block,
-            offset: given.offset,
-            steps: given.steps,
-        };
+        let Played { answer, output, .. } = play(&case);
         let about = format!("{}: {}", case.name, case.says);
         assert_eq!(answer, case.expected.answer, "{about}");
+        let lent = vec![LENT; case.output];
         assert_eq!(output, case.expected.end.unwrap_or(lent), "{about}");
     }
+}
+
+/// "That total equals the entries filled, and for each slot the count equals the
+/// entries that name it. [..] A refusal leaves the journal untouched too."
+#[test]
+fn each_case_s_counts_are_those_of_its_entries() {
+    for case in list::cases() {
+        let Played { journal, .. } = play(&case);
+        let end = end_slots(&case.expected.end.unwrap_or_default());
+        let total: u32 = end.iter().map(|slot| slot.writes).sum();
+        let (filled, beyond) = journal.split_at(total as usize);
+        let untouched = beyond.iter().all(|entry| *entry == LENT_ENTRY);
+        assert!(untouched, "{}", case.name);
+        for (number, slot) in end.iter().enumerate() {
+            let naming = filled.iter().filter(|entry| entry.slot == number);
+            assert_eq!(naming.count(), slot.writes as usize, "{}", case.name);
+        }
+    }
+}
+
+/// An entry of the list as the second runner fills it.
+fn filled(entry: &case::Entry) -> Entry {
+    let value = |bytes: &[u8]| Value {
+        kind: bytes[0],
+        payload: u64::from_le_bytes(bytes[1..].try_into().expect("eight bytes")),
+    };
+    Entry {
+        block: entry.block,
+        offset: entry.offset,
+        slot: entry.slot,
+        old: value(&entry.old),
+        new: value(&entry.new),
+    }
+}
+
+#[test]
+fn the_second_runner_fills_the_entries_that_the_list_says() {
+    let mut worked = 0;
+    for case in list::cases() {
+        let Some(entries) = &case.entries else {
+            continue;
+        };
+        let expected: Vec<Entry> = entries.iter().map(filled).collect();
+        let Played { journal, .. } = play(&case);
+        assert_eq!(journal[..expected.len()], expected, "{}", case.name);
+        worked += expected.len();
+    }
+    assert!(worked > 10, "{worked} entries");
 }
 
 /// A store sheet that a run refuses is refused by the check alone too, and by
@@ -77,7 +158,7 @@ fn the_stored_files_are_those_of_the_list() {
 
 #[test]
 fn every_number_comes_up() {
-    let all: BTreeSet<u32> = (0..=17).collect();
+    let all: BTreeSet<u32> = (0..=18).collect();
     assert_eq!(numbers(), all);
 }
 
@@ -101,6 +182,45 @@ fn every_byte_is_a_ninth_somewhere() {
         .filter(|case| case.expected.answer.number == 10);
     let bytes: BTreeSet<u8> = too_deep.map(refused_byte).collect();
     assert!((0x11..=0x15).all(|byte| bytes.contains(&byte)), "{bytes:?}");
+}
+
+/// What the program has room for: a slot more than any end store has, as many
+/// entries as the printing program lends, and a name and two sheets of 32,768 bytes.
+#[test]
+fn every_case_fits() {
+    const MOST_OUTPUT: usize = (256 + 1) * OUTPUT_SLOT;
+    const MOST_BODY: usize = 32_768;
+    for case in list::cases() {
+        let Case {
+            name, call, output, ..
+        } = &case;
+        assert!(*output <= MOST_OUTPUT, "{name}: {output}");
+        assert!(call.journal <= AMPLE_ENTRIES, "{name}: {}", call.journal);
+        let body = name.len() + call.store.len() + call.programme.len();
+        assert!(body <= MOST_BODY, "{name}: {body}");
+    }
+}
+
+/// 18 comes up under each rule, and journals of every length from none to one more
+/// than a run fills.
+#[test]
+fn journals_of_each_length_are_lent() {
+    let cases = list::cases();
+    let full = cases
+        .iter()
+        .filter(|case| case.expected.answer.number == 18);
+    let rules: BTreeSet<u32> = full.map(|case| case.call.rule).collect();
+    assert_eq!(rules, BTreeSet::from(RULES));
+    // For a finished run how many entries are left.
+    let left = cases.iter().filter_map(|case| {
+        let end = end_slots(case.expected.end.as_ref()?);
+        let total: u32 = end.iter().map(|slot| slot.writes).sum();
+        Some((total, case.call.journal - total as usize))
+    });
+    let left: BTreeSet<(u32, usize)> = left.collect();
+    for (writes, entries) in [(0, 0), (0, 1), (3, 0), (3, 1), (64, 0), (64, 1), (512, 0)] {
+        assert!(left.contains(&(writes, entries)), "{writes} {entries}");
+    }
 }
 
 #[test]
@@ -131,13 +251,13 @@ fn the_paper_s_table_comes_out() {
 }
 
 /// Of 3 + 4 × 32 + 256 + 9 × 256 and of 3 + 64 + 2 × 64 + 64 + 16,384 bytes, with
-/// an output of 9 × 256.
+/// an output of 13 × 256.
 #[test]
 fn the_largest_good_sheets_are_played() {
     let cases = list::cases();
     let Case { call, output, .. } = case_named(&cases, "all at its limit");
     let lengths = [call.store.len(), call.programme.len(), *output];
-    assert_eq!(lengths, [2691, 16_643, 2304]);
+    assert_eq!(lengths, [2691, 16_643, 3328]);
 }
 
 #[test]
@@ -148,10 +268,11 @@ fn a_case_has_the_bytes_that_the_program_reads() {
         .rule(0x0403_0201)
         .budget(0x0807_0605)
         .output(0x0A09)
+        .journal(0x0C0B)
         .refused(17, 1, 2, 3)];
     let bytes = [
         b"\x01\x00".as_slice(),
-        b"case\x02\x01\x02\x03\x04\x05\x06\x07\x08\x09\x0A\x01\x00\x02\x00",
+        b"case\x02\x01\x02\x03\x04\x05\x06\x07\x08\x09\x0A\x0B\x0C\x01\x00\x02\x00",
         b"ab\x51\x61\x62",
     ];
     assert_eq!(layout::list_bytes(&cases), bytes.concat());
@@ -165,11 +286,12 @@ fn a_line_tells_the_answer_and_the_output() {
         case("refused", "").refused(17, 1, 2, 3),
         case("two slots", "")
             .store(two)
-            .finishes(4, &[integer(-2), read_view(1)]),
+            .finishes(4, &[written(258, integer(-2)), kept(read_view(1))]),
         case("no slots", "").store(none).finishes(0, &[]),
     ];
     let lines = "refused: end 17 block 1 at 2 steps 3 output untouched\n\
-        two slots: end 0 block 0 at 0 steps 4 output 00feffffffffffffff 020100000000000000\n\
+        two slots: end 0 block 0 at 0 steps 4 output \
+        00feffffffffffffff02010000 02010000000000000000000000\n\
         no slots: end 0 block 0 at 0 steps 0 output empty\n\
         cases played: 3\n";
     assert_eq!(layout::lines(&cases), lines);

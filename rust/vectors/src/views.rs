@@ -95,12 +95,14 @@ fn not_judged() -> Vec<Case> {
     let [view, high, own] = slots();
     let own_view = literal(write_view(2));
     vec![
-        low("no 15 for what is not read", set_integer(2, 9))
-            .finishes(1, &[view.clone(), high.clone(), integer(9)]),
+        low("no 15 for what is not read", set_integer(2, 9)).finishes(
+            1,
+            &[kept(view.clone()), kept(high.clone()), once(integer(9))],
+        ),
         low("no 15 for what is written over", set_integer(0, 1))
-            .finishes(1, &[integer(1), high.clone(), own]),
+            .finishes(1, &[once(integer(1)), kept(high.clone()), kept(own)]),
         low("no 15 for an own slot's write view", set(2, own_view))
-            .finishes(1, &[view, high, write_view(2)]),
+            .finishes(1, &[kept(view), kept(high), once(write_view(2))]),
     ]
 }
 
@@ -110,9 +112,10 @@ fn by_a_region_above() -> Vec<Case> {
     let above = |name, code| block(name, 1, code, 1);
     let through = assign(slot(0), literal(integer(9)));
     vec![
-        above("no 15 for a region above", through).finishes(1, &[view.clone(), integer(9), own]),
+        above("no 15 for a region above", through)
+            .finishes(1, &[kept(view.clone()), once(integer(9)), kept(own)]),
         above("no 15 for a copy by a region above", set(2, slot(0)))
-            .finishes(1, &[view.clone(), high, view]),
+            .finishes(1, &[kept(view.clone()), kept(high), once(view)]),
         above(
             "13 for a guard by a region above",
             while_do(slot(0), skip()),
@@ -138,9 +141,10 @@ fn read_views() -> Vec<Case> {
             set(2, slot(1)),
             rule,
         );
+        let end = |own| [kept(view.clone()), kept(high.clone()), once(own)];
         [
-            held.finishes(1, &[view.clone(), high.clone(), read_view(1)]),
-            read.finishes(1, &[view.clone(), high.clone(), high.clone()]),
+            held.finishes(1, &end(read_view(1))),
+            read.finishes(1, &end(high.clone())),
         ]
     });
     cases.collect()

@@ -14,8 +14,8 @@ pub fn cases() -> Vec<Case> {
     cases
 }
 
-fn opening() -> [Bytes; 2] {
-    [integer(5), integer(7)]
+fn opening() -> [EndSlot; 2] {
+    [integer(5), integer(7)].map(kept)
 }
 
 /// Slot 0 shows itself, so any number of reads through it gives its view.
@@ -30,7 +30,7 @@ fn limits() -> Vec<Case> {
             .refused_early(3),
         case("n 1", "n = 1, mask 1: good.")
             .store(store(&[1], &[(0, integer(5))]))
-            .finishes(0, &[integer(5)]),
+            .finishes(0, &[kept(integer(5))]),
         case("depth 32", "Depth 32 and 8 reads pass")
             .block(0, nested(32, skip(), in_while))
             .finishes(1, &opening()),
@@ -41,7 +41,7 @@ fn limits() -> Vec<Case> {
         case("reads 8", "Depth 32 and 8 reads pass")
             .store(mirror_store())
             .block(0, set(1, reads(8, 0)))
-            .finishes(1, &[read_view(0), read_view(0)]),
+            .finishes(1, &[kept(read_view(0)), once(read_view(0))]),
         // The ninth read follows the assignment's byte, its target and eight.
         case("reads 9", "33 and 9 give 10")
             .store(mirror_store())
@@ -64,7 +64,7 @@ fn examples() -> Vec<Case> {
             .programme(example_programme(regions))
             .rule(rule)
     };
-    let end = [integer(42), integer(42)];
+    let end = [integer(42), integer(42)].map(once);
     vec![
         example("P1", "rules 0 and 1 finish, steps 2", [0, 1], 0).finishes(2, &end),
         example("P2", "rules 0 and 1 finish, steps 2", [0, 1], 1).finishes(2, &end),
@@ -94,14 +94,14 @@ fn single_blocks() -> Vec<Case> {
             .refused(15, 0, 0, 0),
         view("P8 rule 0")
             .block(0, put_view.clone())
-            .finishes(1, &[write_view(1), integer(7)]),
+            .finishes(1, &[once(write_view(1)), kept(integer(7))]),
         view("P8 rule 1")
             .block(0, put_view)
             .rule(1)
             .refused(15, 0, 0, 0),
         branch("P9 rule 2", choice)
             .rule(2)
-            .finishes(2, &[truth(true), integer(41)]),
+            .finishes(2, &[kept(truth(true)), once(integer(41))]),
         branch("P9 rule 3", offset).rule(3).refused(16, 0, 12, 1),
     ]
 }

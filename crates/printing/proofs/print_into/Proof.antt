@@ -6,8 +6,8 @@ use Rattle.printing.proofs.Lines.{same-lines}
 use Rattle.printing.proofs.print_into.Statement.{statement}
 use Rattle.printing.proofs.print_into.Tie as tie
 
-run-requires : tie.Need-run-requires
-run-requires c κs = search needs
+run-lent-requires : tie.Need-run-lent-requires
+run-lent-requires c κs = search needs
 
 put-lines-requires : tie.Need-put-lines-requires
 put-lines-requires c κs = search needs
@@ -21,9 +21,9 @@ same-length-2 c = search needs
 returns : tie.Need-returns
 returns c =
     let a = c .before .before .before .before .before .before .before .before .before .before .before .before .before .args in
-    let e = c .before .before .before .before .before .before .before .run .ensures in
+    let e = c .before .before .before .before .before .before .before .run-lent .ensures in
     put-as textRoom (same-lines (a .store .now) (a .slots) (e .0) (e .1)) (omega arith) (c .before .before .put-lines .ensures)
 
 pub print-into-spec : {M : Type 1} → statement M
 print-into-spec =
-    tie.close (tie.spec run-requires put-lines-requires same-length same-length-2 returns)
+    tie.close (tie.spec run-lent-requires put-lines-requires same-length same-length-2 returns)

@@ -1,5 +1,7 @@
+use denote.Ref.{now}
+use native.Mathlib.Omega.{arith}
 use borrow.Author.Needs.{needs}
-use Rattle.runner.proofs.Ending.{finish-can, finish-done, finish-halt}
+use Rattle.runner.proofs.Ending.{finish-can, finish-few, finish-done, finish-halt}
 use Rattle.runner.proofs.finish.Statement.{statement}
 use Rattle.runner.proofs.finish.Tie as tie
 
@@ -12,7 +14,7 @@ opening-requires c κs = search needs
 play-blocks-requires : tie.Need-play-blocks-requires
 play-blocks-requires c κs =
     let n = c .before .before .before in
-    rw (c .before .opening .ensures) (finish-can _ _ _ _ _ _ _ (n .number-at .ensures) (n .before .before .before .pre))
+    rw (c .before .opening .ensures) (finish-can _ _ _ _ _ _ _ _ (n .number-at .ensures) (n .before .before .before .pre))
 
 enum-known-steps : tie.Need-enum-known-steps
 enum-known-steps c = search needs
@@ -20,8 +22,23 @@ enum-known-steps c = search needs
 write-store-requires : tie.Need-write-store-requires
 write-store-requires c κs = search needs
 
+sub-t31 : tie.Need-sub-t31
+sub-t31 c =
+    let m = c .before .before .before .before .before .before in
+    let b = m .before .before in
+    let o = b .before .before in
+    let n = o .before .before in
+    omega (
+      arith,
+      finish-few _ _ _ _ _ _ _ _ (n .number-at .ensures) _ (now (n .before .before .before .args .out)) (n .before .before .before .pre) _ _
+          (rw (m .steps .given .1, o .opening .ensures) at (b .play-blocks .ensures)),
+    )
+
 enum-known-number : tie.Need-enum-known-number
 enum-known-number c = search needs
+
+refused-requires : tie.Need-refused-requires
+refused-requires c κs = search needs
 
 same-length : tie.Need-same-length
 same-length c = search needs
@@ -31,16 +48,16 @@ returns c =
     let m = c .before .before .before .before .before .before in
     let b = m .before .before in
     let o = b .before .before in
-    finish-done _ _ _ _ _ _ _ (o .before .before .number-at .ensures) _ _ _ _
+    finish-done _ _ _ _ _ _ _ _ (o .before .before .number-at .ensures) _ _ _ _ _
     (rw (m .steps .given .1, o .opening .ensures) at (b .play-blocks .ensures)) (c .before .before .write-store .ensures)
 
 returns-2 : tie.Need-returns-2
 returns-2 c =
-    let m = c .before in
+    let m = c .before .before in
     let b = m .before .before in
     let o = b .before .before in
-    finish-halt _ _ _ _ _ _ _ (o .before .before .number-at .ensures) _ _ _ _ _ _
-    (rw (m .number .given .1, o .opening .ensures) at (b .play-blocks .ensures))
+    finish-halt _ _ _ _ _ _ _ _ (o .before .before .number-at .ensures) _ _ _ _ _ _ _
+    (rw (m .number .given .1, o .opening .ensures) at (b .play-blocks .ensures)) (c .refused .ensures)
 
 pub finish-spec : {M : Type 1} → statement M
 finish-spec =
@@ -51,7 +68,9 @@ finish-spec =
     play-blocks-requires
     enum-known-steps
     write-store-requires
+    sub-t31
     enum-known-number
+    refused-requires
     same-length
     returns
     returns-2)

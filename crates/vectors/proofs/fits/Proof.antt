@@ -17,15 +17,18 @@ returns-3 c = (λ p. absurd (false≢true p), λ q. absurd (omega (arith, q)))
 returns-4 : tie.Need-returns-4
 returns-4 c = (λ p. absurd (false≢true p), λ q. absurd (omega (arith, q)))
 
+returns-5 : tie.Need-returns-5
+returns-5 c = (λ p. absurd (false≢true p), λ q. absurd (omega (arith, q)))
+
 add-result : tie.Need-add-result
 add-result c = search needs
 
 add-result-2 : tie.Need-add-result-2
 add-result-2 c = search needs
 
-returns-5 : tie.Need-returns-5
-returns-5 c = (λ p. (omega arith, leb-true _ _ p), λ q. le-leb _ _ (q .1))
+returns-6 : tie.Need-returns-6
+returns-6 c = (λ p. (omega arith, omega arith, leb-true _ _ p), λ q. le-leb _ _ (q .2))
 
 pub fits-spec : {M : Type 1} → statement M
 fits-spec =
-    tie.close (tie.spec returns returns-2 returns-3 returns-4 add-result add-result-2 returns-5)
+    tie.close (tie.spec returns returns-2 returns-3 returns-4 returns-5 add-result add-result-2 returns-6)

@@ -21,6 +21,9 @@ number-at-requires-5 c κs = search needs
 number-at-requires-6 : tie.Need-number-at-requires-6
 number-at-requires-6 c κs = search needs
 
+number-at-requires-7 : tie.Need-number-at-requires-7
+number-at-requires-7 c κs = search needs
+
 returns : tie.Need-returns
 unfolding headOf
 returns c =
@@ -29,7 +32,8 @@ returns c =
     let f = e .before .before in
     let g = f .before .before in
     let h = g .before .before in
-    rw (h .number-at .ensures, g .number-at2 .ensures, f .number-at3 .ensures, e .number-at4 .ensures, d .number-at5 .ensures, c .number-at6 .ensures)
+    let i = h .before .before in
+    rw (i .number-at .ensures, h .number-at2 .ensures, g .number-at3 .ensures, f .number-at4 .ensures, e .number-at5 .ensures, d .number-at6 .ensures, c .number-at7 .ensures)
 
 pub head-of-spec : {M : Type 1} → statement M
 head-of-spec =
@@ -41,4 +45,5 @@ head-of-spec =
     number-at-requires-4
     number-at-requires-5
     number-at-requires-6
+    number-at-requires-7
     returns)

@@ -13,26 +13,26 @@ cast-rule c = search needs
 cast-budget : tie.Need-cast-budget
 cast-budget c = search needs
 
-sub-run : tie.Need-sub-run
-sub-run c = search needs
+sub-run-lent : tie.Need-sub-run-lent
+sub-run-lent c = search needs
 
-part-run-start : tie.Need-part-run-start
-part-run-start c = search needs
+part-run-lent-start : tie.Need-part-run-lent-start
+part-run-lent-start c = search needs
 
-part-run-end : tie.Need-part-run-end
-part-run-end c = search needs
+part-run-lent-end : tie.Need-part-run-lent-end
+part-run-lent-end c = search needs
 
-sub-run-2 : tie.Need-sub-run-2
-sub-run-2 c = search needs
+sub-run-lent-2 : tie.Need-sub-run-lent-2
+sub-run-lent-2 c = search needs
 
-part-run-start-2 : tie.Need-part-run-start-2
-part-run-start-2 c = search needs
+part-run-lent-start-2 : tie.Need-part-run-lent-start-2
+part-run-lent-start-2 c = search needs
 
-part-run-end-2 : tie.Need-part-run-end-2
-part-run-end-2 c = search needs
+part-run-lent-end-2 : tie.Need-part-run-lent-end-2
+part-run-lent-end-2 c = search needs
 
-run-requires : tie.Need-run-requires
-run-requires c κs = search needs
+run-lent-requires : tie.Need-run-lent-requires
+run-lent-requires c κs = search needs
 
 slice-aggregate-write-all : tie.Need-slice-aggregate-write-all
 slice-aggregate-write-all c = simp length-take (omega arith)
@@ -59,13 +59,13 @@ run-case-spec =
     add-cut
     cast-rule
     cast-budget
-    sub-run
-    part-run-start
-    part-run-end
-    sub-run-2
-    part-run-start-2
-    part-run-end-2
-    run-requires
+    sub-run-lent
+    part-run-lent-start
+    part-run-lent-end
+    sub-run-lent-2
+    part-run-lent-start-2
+    part-run-lent-end-2
+    run-lent-requires
     slice-aggregate-write-all
     write-all-requires
     print-answer-requires

@@ -131,9 +131,9 @@ impl Author<'_> {
 #[cfg(test)]
 mod tests {
     use super::*;
+    use crate::ample::plain_run;
     use crate::author::Care;
     use crate::code::programme_sheet;
-    use crate::play_runs::plain_run;
     use crate::random::Random;
     use crate::sheets::Store;
 

@@ -160,7 +160,7 @@ const MOST_ROUNDS: usize = 900;
 
 /// A counter goes up by one until it comes to this, and another slot, if there is
 /// one, adds up what it was.
-fn adding_up(slots: &[u8], rounds: usize) -> Command {
+pub fn adding_up(slots: &[u8], rounds: usize) -> Command {
     let [counter, others @ ..] = slots else {
         return Command::Skip;
     };
@@ -213,11 +213,11 @@ fn set_truth(slot: u8, holds: bool) -> Command {
 #[cfg(test)]
 mod tests {
     use super::*;
+    use crate::ample::plain_run;
     use crate::answers::Answer;
     use crate::author::Care;
     use crate::code::programme_sheet;
     use crate::random::Random;
-    use crate::second;
     use crate::sheets::Store;
 
     const CASES: u64 = 300;
@@ -229,8 +229,7 @@ mod tests {
             let store = Store::random(&mut random);
             let blocks = write(&mut Author::new(&mut random, &store, Care::FULL));
             let sheet = programme_sheet(&blocks).bytes;
-            let mut output = vec![0; store.table.slots() * Value::WIDTH];
-            let answer = second::run(&store.bytes(), &sheet, 3, 3_000, &mut output);
+            let answer = plain_run(&store.bytes(), &sheet, 3).second().answer;
             (blocks, answer)
         };
         (0..CASES).map(play).collect()

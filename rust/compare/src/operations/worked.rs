@@ -2,7 +2,7 @@
 
 use super::working::{Cause, Fault, Working};
 use crate::code::Command;
-use crate::decode::{command_at, Side};
+use crate::decode::Side;
 use crate::expressions::{Expression, Operator};
 use crate::rehearsal::{Rehearsal, Watch};
 use crate::steps::Followed;
@@ -119,7 +119,7 @@ impl Worked {
         if !followed.is_whole() || !matches!(answer.number, 13 | 15) {
             return;
         }
-        let refused = command_at(&run.programme, answer.block, answer.offset);
+        let refused = followed.refused();
         let region = blocks[answer.block].region;
         let capability = (run.rule == CAPABILITY).then_some(region);
         let fault = refused.and_then(|command| fault_of(stage, capability, &command));
@@ -205,8 +205,8 @@ fn fault_of(stage: &Rehearsal, capability: Option<u8>, command: &Command) -> Opt
 #[cfg(test)]
 mod tests {
     use super::*;
+    use crate::ample::plain_run;
     use crate::code::{programme_sheet, Block};
-    use crate::play_runs::plain_run;
     use crate::sheets::plain_store;
 
     fn integer(integer: i64) -> Expression {

@@ -5,6 +5,7 @@ use std::fmt::{self, Display, Formatter};
 
 use super::endorsed::Floors;
 use super::tainted::Operands;
+use super::traces::Traces;
 
 /// The rule numbers of the two runs of a pair.
 #[derive(Debug, Clone, Copy, PartialEq, Eq)]
@@ -53,10 +54,14 @@ pub struct Counts {
     pub told_apart: u64,
     /// Finished, and some slot ends differently by its high bytes alone.
     pub by_high_bytes: u64,
-    /// Finished, and a protected slot doesn't end as it began.
-    pub written: u64,
-    /// Finished, and a protected slot ends differently.
-    pub leaked: u64,
+    /// Finished, and slots end differently by counts alone.
+    pub by_counts: u64,
+    /// Finished, and a protected slot doesn't end with its opening value.
+    pub changed: u64,
+    /// Finished, and both journals have several entries that name protected slots.
+    pub listed: u64,
+    /// Finished, and a protected slot is left differently.
+    pub leaked: Traces,
     /// Those among them in which an operation outside the adversary's reach has
     /// a tainted operand.
     pub leaked_with_operation: u64,
@@ -70,7 +75,9 @@ impl Display for Counts {
             finished,
             told_apart,
             by_high_bytes,
-            written,
+            by_counts,
+            changed,
+            listed,
             leaked,
             leaked_with_operation,
             operands,
@@ -78,10 +85,11 @@ impl Display for Counts {
         } = self;
         write!(
             out,
-            "{finished} pairs finish; {written} of them write a protected slot, \
-             {told_apart} end differently in some slot, {by_high_bytes} in one by its high \
-             bytes alone, {leaked} in a protected one, {leaked_with_operation} of these with a \
-             tainted operand; tainted operands: {operands}; endorsed out of reach: {floors}"
+            "{finished} pairs finish; {changed} of them change a protected slot, {listed} have \
+             several entries that name one, {told_apart} end differently in some slot, \
+             {by_high_bytes} in one by its high bytes alone, {by_counts} by counts alone; in a \
+             protected slot: {leaked}, {leaked_with_operation} of these with a tainted operand; \
+             tainted operands: {operands}; endorsed out of reach: {floors}"
         )
     }
 }
@@ -153,26 +161,37 @@ impl Played {
     /// What is wrong with these counts, in words.
     pub fn complaints(&self) -> Vec<String> {
         let enough = |counts: Counts| counts.finished > self.pairs / 10;
-        let telling = |counts: Counts| counts.told_apart > 0 && counts.written > 0;
+        let telling = |counts: Counts| counts.told_apart > 0 && counts.changed > 0;
         let idle = self
             .rules()
             .filter(|(_, counts)| !enough(*counts) || !telling(*counts))
             .map(|(rules, _)| format!("{rules}: too few pairs finish or do anything"));
         let blind = self
             .rules()
-            .filter(|(rules, counts)| !rules.isolate() && counts.leaked == 0)
+            .filter(|(rules, counts)| !rules.isolate() && counts.leaked.by_value == 0)
             .map(|(rules, _)| format!("{rules}: no pair ends differently where protected"));
         let needless = self
             .without()
-            .filter(|(_, counts)| counts.leaked == 0)
+            .filter(|(_, counts)| counts.leaked.by_value == 0)
             .map(|(words, _)| format!("{words}: no pair ends differently where protected"));
         let unseen = (self.shown == 0).then(|| "no stores differ where protected".to_string());
         let answers = idle.chain(blind).chain(needless).chain(unseen);
         answers
             .chain(self.complaints_of_high_bytes())
+            .chain(self.complaints_of_journals())
             .chain(self.complaints_of_operations())
             .chain(self.complaints_of_floors())
             .collect()
+    }
+
+    fn complaints_of_journals(&self) -> impl Iterator<Item = String> + '_ {
+        self.rules().filter_map(|(rules, counts)| {
+            let told = counts.by_counts > counts.finished / 100;
+            let listed = counts.listed > counts.finished / 100;
+            let blind = !rules.isolate() && !counts.leaked.all_came_up();
+            let few = format!("{rules}: too few pairs in which counts or entries tell");
+            (!told || !listed || blind).then_some(few)
+        })
     }
 
     fn complaints_of_floors(&self) -> impl Iterator<Item = String> + '_ {
@@ -206,90 +225,4 @@ impl Played {
 }
 
 #[cfg(test)]
-mod tests {
-    use super::*;
-
-    /// Counts with which nothing is wrong.
-    fn all() -> Counts {
-        Counts {
-            finished: 2,
-            told_apart: 1,
-            by_high_bytes: 1,
-            written: 1,
-            leaked: 1,
-            leaked_with_operation: 1,
-            operands: Operands {
-                left: 1,
-                right: 1,
-                both: 1,
-            },
-            floors: Floors {
-                endorsed: 1,
-                above: 1,
-                beside: 1,
-            },
-        }
-    }
-
-    fn all_played() -> Played {
-        Played {
-            pairs: 1,
-            rules: [all(); Rules::ALL.len()],
-            without: [all(); Without::ALL.len()],
-            shown: 1,
-            shown_by_high_bytes: 1,
-        }
-    }
-
-    #[test]
-    fn what_is_never_seen_is_told() {
-        let mut played = all_played();
-        assert!(played.complaints().is_empty());
-        played.shown = 0;
-        played.without = Default::default();
-        assert_eq!(played.complaints().len(), 1 + Without::ALL.len());
-        played.shown_by_high_bytes = 0;
-        played
-            .rules
-            .iter_mut()
-            .for_each(|counts| counts.by_high_bytes = 0);
-        let more = 1 + Rules::ALL.len();
-        assert_eq!(played.complaints().len(), 1 + Without::ALL.len() + more);
-        played.rules[3].operands.right = 0;
-        played.rules[2].leaked_with_operation = 0;
-        let more = more + 2;
-        assert_eq!(played.complaints().len(), 1 + Without::ALL.len() + more);
-    }
-
-    /// Each condition that is left out has to let something through by itself.
-    #[test]
-    fn a_condition_that_is_not_needed_is_told() {
-        for (place, without) in Without::ALL.into_iter().enumerate() {
-            let mut played = all_played();
-            played.without[place].leaked = 0;
-            let words = format!(
-                "{}: no pair ends differently where protected",
-                without.words()
-            );
-            assert_eq!(played.complaints(), [words]);
-        }
-    }
-
-    #[test]
-    fn floors_that_do_not_count_are_told() {
-        let changes: [fn(&mut Floors); 4] = [
-            |floors| floors.endorsed = 0,
-            |floors| floors.endorsed = 2,
-            |floors| floors.above = 0,
-            |floors| floors.beside = 0,
-        ];
-        for change in changes {
-            let mut played = all_played();
-            let all = played.rules.iter_mut();
-            all.for_each(|counts| change(&mut counts.floors));
-            let complaints = played.complaints();
-            assert_eq!(complaints.len(), Rules::isolating().count());
-            assert!(complaints.iter().all(|words| words.contains("floors")));
-        }
-    }
-}
+mod tests;

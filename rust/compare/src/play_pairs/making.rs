@@ -4,9 +4,9 @@ use super::counts::Without;
 use super::pair::{is_protected, Pair};
 use super::terms::{same_again, Terms};
 use crate::author::{Author, Care};
+use crate::budgets::MOST_BUDGET;
 use crate::code::Block;
 use crate::lattices::Lattice;
-use crate::play_runs::MOST_BUDGET;
 use crate::random::Random;
 use crate::sheets::{Store, Table};
 use crate::values::{Kind, Value};
@@ -36,6 +36,7 @@ impl Pair {
             stores,
             replacements,
             budgets,
+            journals: random_journals(random),
         }
     }
 
@@ -116,6 +117,22 @@ fn random_budget(random: &mut Random) -> u32 {
     }
 }
 
+/// Two lengths, mostly enough for runs that end. They are never the same.
+fn random_journals(random: &mut Random) -> [usize; 2] {
+    let mut length = || match random.below(20) {
+        0 => random.below(12),
+        1 => random.between(100, 600),
+        _ => random.between(24, 90),
+    };
+    let one = length();
+    loop {
+        let other = length();
+        if other != one {
+            return [one, other];
+        }
+    }
+}
+
 /// Two replacements of a programme. They share the blocks outside the adversary's
 /// reach and now and then one within it, unless a condition is left out.
 fn random_replacements(
@@ -177,6 +194,7 @@ mod tests {
             assert!(pair
                 .protected()
                 .all(|slot| one.values[slot] == other.values[slot]));
+            assert_ne!(pair.journals[0], pair.journals[1]);
             let [blocks, others] = &pair.replacements;
             assert_eq!(blocks.len(), others.len());
             let within = |block: &Block| is_below(&pair, block.region);

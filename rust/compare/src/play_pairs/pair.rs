@@ -5,24 +5,27 @@ use std::fmt::{self, Display, Formatter};
 use super::counts::{Counts, Rules};
 use super::endorsed::{self, Endorsed};
 use super::tainted::{self, Tainted};
+use super::traces::Trace;
 use super::Stopped;
 use crate::calls::{Call, Run, Seen};
 use crate::code::{programme_sheet, Block};
+use crate::journals::Entry;
+use crate::outputs::{output_length, slots_of};
 use crate::sheets::{Store, Table};
 use crate::values::Value;
 
-/// Two runs under full provenance that end differently in a protected slot.
+/// Two runs under full provenance that leave a protected slot differently.
 #[derive(Debug, Clone)]
 pub struct Leak {
     adversary: u8,
-    slot: usize,
+    trace: Trace,
     runs: [(Call, Seen); 2],
 }
 
 impl Display for Leak {
     fn fmt(&self, out: &mut Formatter) -> fmt::Result {
-        let (adversary, slot) = (self.adversary, self.slot);
-        writeln!(out, "adversary {adversary}: slot {slot} ends differently")?;
+        let (adversary, trace) = (self.adversary, self.trace);
+        writeln!(out, "adversary {adversary}: {trace}")?;
         for (call, seen) in &self.runs {
             write!(out, "{call}")?;
             writeln!(out, "proved runner: {seen}")?;
@@ -37,11 +40,12 @@ pub(super) struct Pair {
     pub stores: [Store; 2],
     pub replacements: [Vec<Block>; 2],
     pub budgets: [u32; 2],
+    pub journals: [usize; 2],
 }
 
 impl Pair {
-    /// Both runs. If they finish and end differently in a protected slot, that
-    /// is a leak.
+    /// Both runs. If they finish and leave a protected slot differently, that is
+    /// a leak.
     pub fn play(&self, rules: Rules, counts: &mut Counts) -> Result<Option<Leak>, Stopped> {
         let calls = self.calls(rules);
         let seen = |call: &Call| call.compare().map_err(Stopped::Differs);
@@ -49,28 +53,35 @@ impl Pair {
         if ends.iter().any(|end| end.answer.number != 0) {
             return Ok(None);
         }
-        counts.finished += 1;
-        counts.told_apart += u64::from(ends[0].output() != ends[1].output());
-        counts.by_high_bytes += u64::from(self.told_apart_by_high_bytes(&ends));
-        counts.written += u64::from(self.wrote_protected(&ends));
         let (tainted, endorsed) = self.watched(&ends);
+        self.count_end(&ends, counts);
         counts.operands.count(tainted);
         counts.floors.count(endorsed);
-        let Some(slot) = self.leak(&ends) else {
+        let Some(trace) = self.trace(&ends) else {
             return Ok(None);
         };
-        counts.leaked += 1;
+        counts.leaked.count(trace);
         counts.leaked_with_operation += u64::from(tainted.any());
         let [one, other] = calls;
         let [one_end, other_end] = ends;
         Ok(Some(Leak {
             adversary: self.adversary,
-            slot,
+            trace,
             runs: [(one, one_end), (other, other_end)],
         }))
     }
 
-    /// Both runs finish and end differently in a protected slot, or it stops.
+    fn count_end(&self, ends: &[Seen; 2], counts: &mut Counts) {
+        let lists = [0, 1].map(|side| self.protected_entries(&ends[side]));
+        counts.finished += 1;
+        counts.told_apart += u64::from(ends[0].output() != ends[1].output());
+        counts.by_high_bytes += u64::from(told_apart_by_high_bytes(ends));
+        counts.by_counts += u64::from(told_apart_by_counts(ends));
+        counts.changed += u64::from(self.changed_protected(ends));
+        counts.listed += u64::from(lists.iter().all(|list| list.len() > 1));
+    }
+
+    /// Both runs finish and leave a protected slot differently, or it stops.
     pub fn play_back(&self, rules: Rules) -> Result<(), Stopped> {
         match self.play(rules, &mut Counts::default())? {
             Some(_) => Ok(()),
@@ -98,7 +109,8 @@ impl Pair {
                 programme: programme_sheet(&self.replacements[side]).bytes,
                 rule: rules.0[side],
                 budget: self.budgets[side],
-                output_length: store.table.slots() * Value::WIDTH,
+                output_length: output_length(store.table.slots()),
+                journal_length: self.journals[side],
             })
         })
     }
@@ -110,38 +122,75 @@ impl Pair {
             .any(|slot| differ_by_high_bytes(&at(0, slot), &at(1, slot)))
     }
 
-    /// Whether some slot ends differently by its high bytes alone.
-    fn told_apart_by_high_bytes(&self, ends: &[Seen; 2]) -> bool {
-        let at = |side: usize, slot| slot_bytes(ends[side].output(), slot);
-        let mut slots = 0..self.stores[0].table.slots();
-        slots.any(|slot| differ_by_high_bytes(at(0, slot), at(1, slot)))
-    }
-
     pub fn protected(&self) -> impl Iterator<Item = usize> + '_ {
-        let table = &self.stores[0].table;
-        let test = |slot: &usize| is_protected(table, *slot, self.adversary);
-        (0..table.slots()).filter(test)
+        let slots = 0..self.stores[0].table.slots();
+        slots.filter(|slot| self.is_protected(*slot))
     }
 
-    /// The first protected slot that ends differently.
-    fn leak(&self, ends: &[Seen; 2]) -> Option<usize> {
+    fn is_protected(&self, slot: usize) -> bool {
+        is_protected(&self.stores[0].table, slot, self.adversary)
+    }
+
+    /// The entries that name protected slots.
+    fn protected_entries<'a>(&self, end: &'a Seen) -> Vec<&'a Entry> {
+        let entries = end.journal.filled.iter();
+        let named = entries.filter(|entry| self.is_protected(entry.slot));
+        named.collect()
+    }
+
+    /// Where protected slots are left differently, if they are: in the output, by
+    /// values and then by counts, or in the journal.
+    fn trace(&self, ends: &[Seen; 2]) -> Option<Trace> {
         let at = |side: usize, slot| slot_bytes(ends[side].output(), slot);
-        self.protected().find(|slot| at(0, *slot) != at(1, *slot))
+        let value = |side: usize, slot| value_of(at(side, slot));
+        let mut protected = self.protected();
+        if let Some(slot) = protected.find(|slot| value(0, *slot) != value(1, *slot)) {
+            return Some(Trace::Value { slot });
+        }
+        let mut protected = self.protected();
+        if let Some(slot) = protected.find(|slot| at(0, *slot) != at(1, *slot)) {
+            return Some(Trace::Count { slot });
+        }
+        let [one, other] = ends.each_ref().map(|end| self.protected_entries(end));
+        (one != other).then_some(Trace::Entries)
     }
 
-    fn wrote_protected(&self, ends: &[Seen; 2]) -> bool {
+    /// Whether a protected slot doesn't end with the value with which it began.
+    fn changed_protected(&self, ends: &[Seen; 2]) -> bool {
         let sides = self.stores.iter().zip(ends);
         sides.into_iter().any(|(store, end)| {
-            let opening = store.bytes();
-            let values = &opening[opening.len() - end.output().len()..];
-            self.protected()
-                .any(|slot| slot_bytes(values, slot) != slot_bytes(end.output(), slot))
+            self.protected().any(|slot| {
+                let opening = store.values[slot].bytes();
+                opening != value_of(slot_bytes(end.output(), slot))
+            })
         })
     }
 }
 
 fn slot_bytes(output: &[u8], slot: usize) -> &[u8] {
-    &output[slot * Value::WIDTH..(slot + 1) * Value::WIDTH]
+    &output[output_length(slot)..output_length(slot + 1)]
+}
+
+/// The value in a slot's bytes.
+fn value_of(slot: &[u8]) -> &[u8] {
+    &slot[..Value::WIDTH]
+}
+
+/// The values in the outputs of both runs, slot by slot.
+fn values_of(ends: &[Seen; 2]) -> impl Iterator<Item = (&[u8], &[u8])> {
+    let [one, other] = ends.each_ref().map(|end| slots_of(end.output()));
+    one.map(value_of).zip(other.map(value_of))
+}
+
+/// Whether some slot ends differently by its high bytes alone.
+fn told_apart_by_high_bytes(ends: &[Seen; 2]) -> bool {
+    values_of(ends).any(|(one, other)| differ_by_high_bytes(one, other))
+}
+
+/// Whether slots end differently by their counts alone.
+fn told_apart_by_counts(ends: &[Seen; 2]) -> bool {
+    let same_values = values_of(ends).all(|(one, other)| one == other);
+    same_values && ends[0].output() != ends[1].output()
 }
 
 /// Whether two values, in bytes, are of one kind and one number but for the high

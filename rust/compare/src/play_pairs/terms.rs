@@ -23,8 +23,17 @@ impl Terms {
         author.block(region, endorsement)
     }
 
-    /// An endorsed block is often of the region that may write every slot.
+    /// Now and then one that shows the adversary in counts and entries alone, under
+    /// rules that let it pass. An endorsed block is often of the region that may
+    /// write every slot.
     pub fn block_outside_reach(self, author: &mut Author) -> Block {
+        if author.random().one_in(40) {
+            let lattice = &author.table().lattice;
+            let low = |owner| lattice.at_or_below(owner, self.adversary);
+            if let Some(block) = author.block_of_parts_alike(lattice.top(), low) {
+                return block;
+            }
+        }
         let endorsed = self.endorses && author.random().percent(60);
         let lattice = &author.table().lattice;
         let outside = |region| !lattice.at_or_below(region, self.adversary);

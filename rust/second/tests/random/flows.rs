@@ -25,6 +25,7 @@ pub fn flowing_parts(seed: u64) -> Parts {
         blocks: author.blocks(),
         rule: 0,
         budget,
+        journal: author.random.journal(),
     }
 }
 

@@ -63,6 +63,15 @@ impl Random {
         }
     }
 
+    /// Entries enough for every run, and now and then about as many as a run
+    /// here writes.
+    pub fn journal(&mut self) -> usize {
+        match self.one_in(3) {
+            true => self.below(6),
+            false => AMPLE_ENTRIES,
+        }
+    }
+
     pub fn bytes(&mut self, most: usize) -> Bytes {
         let length = self.below(most + 1);
         (0..length).map(|_| self.next() as u8).collect()
@@ -239,13 +248,15 @@ pub struct Parts {
     pub blocks: Vec<FlooredBlock>,
     pub rule: u32,
     pub budget: u32,
+    pub journal: usize,
 }
 
 impl Parts {
     pub fn call(&self) -> Call {
         let store = store(self.masks, &self.slots);
         let programme = programme_with_floors(&self.blocks);
-        call(&store, &programme, self.rule).budget(self.budget)
+        let call = call(&store, &programme, self.rule);
+        call.budget(self.budget).journal(self.journal)
     }
 }
 
@@ -266,6 +277,7 @@ pub fn good_parts(seed: u64) -> Parts {
         blocks: maker.programme(),
         rule,
         budget,
+        journal: maker.random.journal(),
     }
 }
 

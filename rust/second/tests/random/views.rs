@@ -19,6 +19,7 @@ pub fn views_go_round(seed: u64) -> Parts {
         blocks,
         rule: 0,
         budget: AMPLE,
+        journal: AMPLE_ENTRIES,
     }
 }
 

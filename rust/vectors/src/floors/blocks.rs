@@ -23,7 +23,7 @@ fn blocks(name: &str, blocks: &[FlooredBlock]) -> Draft {
 
 /// Each goes by its own floor.
 fn two_blocks() -> Vec<Case> {
-    let end = [integer(5), integer(5)];
+    let end = [kept(integer(5)), once(integer(5))];
     let both = |name, floors: [u8; 2], codes: [Bytes; 2]| {
         let [first, second] = codes;
         let headers = [(0x81, floors[0], first), (0x81, floors[1], second)];
@@ -41,7 +41,7 @@ fn two_blocks() -> Vec<Case> {
 /// Beside a block that is not endorsed: its floor is no other's, and it has none
 /// of another's.
 fn without_floors_between() -> Vec<Case> {
-    let end = [integer(5), integer(5)];
+    let end = [kept(integer(5)), once(integer(5))];
     vec![
         blocks("floor 0 after FF", &[(1, 0xFF, skip()), (0x81, 0, copy())]).finishes(1, &end),
         blocks(
@@ -80,7 +80,8 @@ fn sixty_four() -> Vec<Case> {
         _ => (0x81, 0, set(to, slot(low))),
     });
     let mixed: Vec<FlooredBlock> = mixed.collect();
-    let end = vec![integer(5); 65];
+    let mut end = vec![once(integer(5)); 64];
+    end.push(kept(integer(5)));
     vec![
         with_floor("64 floors of 0", 63, 0).finishes(64, &end),
         with_floor("64 floors, that of block 31 is 1", 31, 1).refused(16, 31, 0, 31),
@@ -101,5 +102,5 @@ fn labels_are_not_kept() -> Case {
         .store(store(&chain(3), &slots))
         .floored_blocks(&[(0x82, 1, set(1, slot(0))), (2, 0, set(2, slot(1)))])
         .rule(3)
-        .finishes(2, &[integer(5), integer(5), integer(5)])
+        .finishes(2, &[kept(integer(5)), once(integer(5)), once(integer(5))])
 }

@@ -27,7 +27,7 @@ fn p5() -> Vec<Case> {
             .programme(example_with_floors([0, 0x81], [0, floor]))
             .rule(rule)
     };
-    let end = [integer(42), integer(42)];
+    let end = [integer(42), integer(42)].map(once);
     let floor_0 = RULES.map(|rule| p5(0, rule).finishes(2, &end));
     let not_judged = [0, 1].map(|rule| p5(1, rule).finishes(2, &end));
     let judged = [2, 3, 255].map(|rule| p5(1, rule).refused(16, 1, 0, 1));
@@ -50,7 +50,7 @@ fn on_flag(what: &str, floor: u8, code: Bytes, rule: u32) -> Draft {
 /// the branch's too under rule 3.
 fn branches() -> Vec<Case> {
     let choice = || if_else(slot(0), set_integer(1, 41), set_integer(1, 42));
-    let end = [truth(true), integer(41)];
+    let end = [kept(truth(true)), once(integer(41))];
     vec![
         on_flag("if", 1, choice(), 2).finishes(2, &end),
         on_flag("if", 1, choice(), 3).refused(16, 0, HEAD, 1),
@@ -64,12 +64,12 @@ fn branches() -> Vec<Case> {
 fn bodies() -> Vec<Case> {
     let off = || set(0, literal(truth(false)));
     let both = || while_do(slot(0), sequence(&[set_integer(1, 9), off()]));
-    let end = [truth(false), integer(9)];
+    let end = [truth(false), integer(9)].map(once);
     vec![
         on_flag("while", 1, both(), 2).finishes(4, &end),
         on_flag("while", 1, both(), 3).refused(16, 0, HEAD + 2, 1),
         on_flag("while to a low slot", 1, while_do(slot(0), off()), 3)
-            .finishes(3, &[truth(false), integer(7)]),
+            .finishes(3, &[once(truth(false)), kept(integer(7))]),
     ]
 }
 
@@ -77,7 +77,8 @@ fn bodies() -> Vec<Case> {
 fn after_parts() -> Vec<Case> {
     let part = if_else(slot(0), skip(), skip());
     let code = sequence(&[part, set_integer(1, 9)]);
-    vec![on_flag("write after an if", 1, code, 3).finishes(2, &[truth(true), integer(9)])]
+    let end = [kept(truth(true)), once(integer(9))];
+    vec![on_flag("write after an if", 1, code, 3).finishes(2, &end)]
 }
 
 /// 14 is told before 16, and no floor gives authority. Rule 1 refuses the write

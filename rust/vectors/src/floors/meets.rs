@@ -54,8 +54,10 @@ fn flow(masks: &[u32], owner: u8, floor: u8, from: &Sources, rule: u32, passes: 
         )
         .rule(rule);
     if passes {
-        let [target, value, branch, _] = opening;
-        draft.finishes(2, &[target, value.clone(), branch, value])
+        let [_, value, ..] = opening.clone();
+        let mut end = opening.map(kept);
+        end[3] = once(value);
+        draft.finishes(2, &end)
     } else {
         draft.refused(16, 0, 1 + slot(2).len(), 1)
     }
@@ -110,7 +112,7 @@ fn of_operations() -> Vec<Case> {
         let name = format!("sum of {what} to the top, floor {}", name_of(floor));
         block(name, floor, set(2, value), 3)
     };
-    let end = |gives| [integer(0), integer(1), integer(gives)];
+    let end = |gives| [kept(integer(0)), kept(integer(1)), once(integer(gives))];
     vec![
         put("left's and right's", LEFT, both()).refused(16, 0, 0, 0),
         put("left's and right's", BOTTOM, both()).finishes(1, &end(1)),
@@ -135,7 +137,7 @@ fn of_guards() -> Vec<Case> {
             rule,
         )
     };
-    let end = [integer(0), integer(1), integer(9)];
+    let end = [kept(integer(0)), kept(integer(1)), once(integer(9))];
     vec![
         guarded(LEFT, 2).finishes(2, &end),
         guarded(LEFT, 3).refused(16, 0, place, 1),
@@ -155,6 +157,6 @@ fn of_reads() -> Vec<Case> {
     };
     vec![
         shown(LEFT).refused(16, 0, 0, 0),
-        shown(BOTTOM).finishes(1, &[read_view(1), integer(5), integer(5)]),
+        shown(BOTTOM).finishes(1, &[kept(read_view(1)), kept(integer(5)), once(integer(5))]),
     ]
 }

@@ -17,8 +17,8 @@ pub fn cases() -> Vec<Case> {
     cases
 }
 
-fn opening() -> [Bytes; 2] {
-    [integer(5), integer(7)]
+fn opening() -> [EndSlot; 2] {
+    [integer(5), integer(7)].map(kept)
 }
 
 /// So many blocks of one skip each, and so many floors of 0.
@@ -55,7 +55,7 @@ fn places() -> Vec<Case> {
             "floors after the lengths",
             format!("02 2B00 00 81 1500 1600 FF 00 {code}"),
         )
-        .finishes(2, &[integer(42), integer(42)]),
+        .finishes(2, &[integer(42), integer(42)].map(once)),
         sheet(
             "floors before the lengths",
             format!("02 2B00 00 81 FF 00 1500 1600 {code}"),

@@ -55,8 +55,8 @@ fn copy(what: &str, header: (u8, u8), from: u8, to: u8, passes: bool) -> Case {
         .store(store(&DIAMOND, &slots))
         .floored(region, floor, set(i64::from(to), slot(i64::from(from))))
         .rule(3);
-    let mut end = integers;
-    end[usize::from(to)] = integer(i64::from(from));
+    let mut end = integers.map(kept);
+    end[usize::from(to)] = once(integer(i64::from(from)));
     passes_or_16(draft, passes, &end)
 }
 
@@ -87,7 +87,7 @@ fn targets() -> Vec<Case> {
             .store(store(&DIAMOND, &slots))
             .floored(0x80 | TOP, row.floor, assign(slot(0), literal(integer(1))))
             .rule(2);
-        passes_or_16(draft, passes, &[write_view(1), integer(1)])
+        passes_or_16(draft, passes, &[kept(write_view(1)), once(integer(1))])
     });
     cases.into()
 }
@@ -106,7 +106,7 @@ fn branches() -> Vec<Case> {
             .floored(0x80 | TOP, row.floor, code.clone())
             .rule(3);
         if passes {
-            draft.finishes(2, &[truth(true), integer(9)])
+            draft.finishes(2, &[kept(truth(true)), once(integer(9))])
         } else {
             draft.refused(16, 0, 1 + slot(0).len(), 1)
         }
@@ -138,7 +138,7 @@ fn top_0() -> Vec<Case> {
     };
     vec![
         up(0).refused(16, 0, 0, 0),
-        up(1).finishes(1, &[integer(7), integer(7)]),
+        up(1).finishes(1, &[once(integer(7)), kept(integer(7))]),
     ]
 }
 
@@ -147,9 +147,9 @@ fn top_0() -> Vec<Case> {
 fn chain_of_32() -> Vec<Case> {
     let up = |from: i64, floor: u8, passes| {
         let integers = (0..32).map(integer);
-        let mut end: Vec<Bytes> = integers.collect();
-        let slots: Vec<(u8, Bytes)> = (0..32).zip(end.clone()).collect();
-        end[31] = integer(from);
+        let slots: Vec<(u8, Bytes)> = (0..32).zip(integers.clone()).collect();
+        let mut end: Vec<EndSlot> = integers.map(kept).collect();
+        end[31] = once(integer(from));
         let draft = case(
             format!("32 principals: {from} to 31, floor {floor}"),
             PASSES,

@@ -26,7 +26,7 @@ fn low_values() -> Vec<Case> {
         .programme(example_with_floors([0, 1], [floor, floor]))
         .rule(rule)
     };
-    let end = [integer(42), integer(42)];
+    let end = [integer(42), integer(42)].map(once);
     let judged = [0x00, 0x01, 0x02, 0xFF].map(|floor| example(floor, 3).refused(16, 1, 0, 1));
     let rules = [
         example(0xFF, 0).finishes(2, &end),
@@ -41,7 +41,7 @@ fn literals() -> Vec<Case> {
         ignored(format!("a literal, ignored floor {floor:02X}"))
             .floored(1, floor, set_integer(1, 9))
             .rule(3)
-            .finishes(1, &[integer(5), integer(9)])
+            .finishes(1, &[kept(integer(5)), once(integer(9))])
     };
     [0x02, 0x80, 0xFF].map(up).into()
 }
@@ -65,5 +65,5 @@ fn in_64_blocks() -> Case {
     ignored("64 ignored floors")
         .floored_blocks(&blocks)
         .rule(3)
-        .finishes(64, &[integer(5), integer(63)])
+        .finishes(64, &[kept(integer(5)), written(64, integer(63))])
 }

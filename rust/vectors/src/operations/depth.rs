@@ -80,7 +80,7 @@ const VALUE: usize = 1 + LITERAL + 1 + LITERAL;
 pub(super) fn passes(name: String, expression: Bytes) -> Case {
     case(name, DEEP)
         .block(0, unrun(expression))
-        .finishes(1, &[integer(5), integer(7)])
+        .finishes(1, &[integer(5), integer(7)].map(kept))
 }
 
 /// The expression is too deep at this place in it.
@@ -180,8 +180,8 @@ fn operations_around_reads() -> Vec<Case> {
             .rule(3)
     };
     let finished = (0..=MOST).map(|sums| {
-        let mut end = ladder();
-        end[0] = integer(5 + sums as i64);
+        let mut end: Vec<EndSlot> = ladder().into_iter().map(kept).collect();
+        end[0] = once(integer(5 + sums as i64));
         block(sums, MOST).finishes(1, &end)
     });
     // From outside in, the last sum wrapped comes first: an odd one has a
@@ -204,7 +204,7 @@ fn neighbours() -> Vec<Case> {
     vec![
         case("sum of two 7 deep", DEEP)
             .block(0, set(0, sum(deep(7), deep(7))))
-            .finishes(1, &[integer(16), integer(7)]),
+            .finishes(1, &[once(integer(16)), kept(integer(7))]),
         // One sum, then all of its left operand, then 7 more.
         past(
             "sum of 7 and 8 deep".into(),
@@ -213,11 +213,11 @@ fn neighbours() -> Vec<Case> {
         ),
         case("8 deep in each of two commands", DEEP)
             .block(0, twice)
-            .finishes(2, &[integer(9), integer(7)]),
+            .finishes(2, &[written(2, integer(9)), kept(integer(7))]),
         case("8 deep behind a target of 2 reads", DEEP)
             .store(views)
             .block(0, target)
-            .finishes(1, &[integer(9), read_view(0)]),
+            .finishes(1, &[once(integer(9)), kept(read_view(0))]),
     ]
 }
 

@@ -72,7 +72,7 @@ fn kinds() -> Vec<Case> {
             };
             if byte == EQUAL || (left, right) == (0, 0) {
                 let [_, high, view] = slots();
-                draft.finishes(1, &[result, high, view])
+                draft.finishes(1, &[once(result), kept(high), kept(view)])
             } else {
                 at_once(draft, 13)
             }
@@ -92,8 +92,9 @@ fn kinds_wait() -> Vec<Case> {
         };
         let view = "true and a forbidden write view";
         let both = put(view, wrong(), forbidden(), 0);
+        let end = [once(truth(false)), kept(integer(7)), kept(write_view(1))];
         let both = match byte {
-            EQUAL => both.finishes(1, &[truth(false), integer(7), write_view(1)]),
+            EQUAL => both.finishes(1, &end),
             _ => at_once(both, 13),
         };
         [
@@ -147,7 +148,7 @@ fn left_first() -> Vec<Case> {
 fn write_views() -> Vec<Case> {
     let [_, high, view] = slots();
     let compared = || equal(slot(2), forbidden());
-    let after = |result| [truth(result), high.clone(), view.clone()];
+    let after = |result| [once(truth(result)), kept(high.clone()), kept(view.clone())];
     let own = || literal(write_view(0));
     vec![
         put("equal of two forbidden views, rule 0", compared(), 0).finishes(1, &after(true)),

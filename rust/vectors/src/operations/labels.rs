@@ -30,10 +30,10 @@ fn opening() -> [Bytes; 4] {
     [0, 1, 2, 3].map(integer)
 }
 
-/// The opening values with another one in this principal's slot.
-fn with(principal: u8, value: Bytes) -> [Bytes; 4] {
-    let mut end = opening();
-    end[usize::from(principal)] = value;
+/// The opening values with another one written into this principal's slot.
+fn with(principal: u8, value: Bytes) -> [EndSlot; 4] {
+    let mut end = opening().map(kept);
+    end[usize::from(principal)] = once(value);
     end
 }
 
@@ -174,8 +174,9 @@ fn reads_in_operands() -> Vec<Case> {
             block(name("left"), to, sum(reads(2, 0), number(8))),
             block(name("right"), to, sum(number(8), reads(2, 0))),
         ];
+        let end = || [kept(read_view(1)), kept(integer(1)), once(integer(9))];
         sides.map(|draft| match to {
-            BOTTOM => draft.finishes(1, &[read_view(1), integer(1), integer(9)]),
+            BOTTOM => draft.finishes(1, &end()),
             _ => draft.refused(16, 0, 0, 0),
         })
     });
@@ -234,7 +235,7 @@ fn loops() -> Vec<Case> {
     let inside = while_do(guard(), sequence(&[body(), high()]));
     let place = 1 + guard().len() + 2 + body().len();
     let mut end = with(TOP, integer(9));
-    end[usize::from(BOTTOM)] = integer(-1);
+    end[usize::from(BOTTOM)] = once(integer(-1));
     vec![
         block("the top's after a low less-than", TOP, after, 3).finishes(4, &end),
         block("the top's inside a low less-than", TOP, inside, 3).refused(16, 0, place, 2),

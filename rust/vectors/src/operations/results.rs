@@ -34,7 +34,10 @@ fn gives(
         .store(store(&[1], &opening.map(|value| (0, value))))
         .block(0, copies)
         .rule(3)
-        .finishes(2, &[left, right, result.clone(), result])
+        .finishes(
+            2,
+            &[kept(left), kept(right), once(result.clone()), once(result)],
+        )
 }
 
 /// Of two integers: their operation, and the integer that it gives.

@@ -33,7 +33,7 @@ fn balanced() -> Vec<Case> {
         case(name, DEEP)
             .block(0, set(0, expression))
             .rule(3)
-            .finishes(1, &[result, integer(7)])
+            .finishes(1, &[once(result), kept(integer(7))])
     };
     let sums = |depth| tree(SUM, depth, 0, &one);
     // Leaf 77 alone is not 1; each difference takes away what is on the right.

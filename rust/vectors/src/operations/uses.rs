@@ -21,7 +21,7 @@ const FOLLOWED: &str = "Each is followed by two expressions.";
 fn own(name: &str, says: &'static str, expression: Bytes, result: Bytes) -> Case {
     case(name, says)
         .block(0, set(0, expression))
-        .finishes(1, &[result, integer(7)])
+        .finishes(1, &[once(result), kept(integer(7))])
 }
 
 /// Operations of operations, on either side.
@@ -90,7 +90,7 @@ fn as_guards() -> Vec<Case> {
             case(format!("if of {name}, {holds}, rule {rule}"), says)
                 .block(0, if_else(guard.clone(), then_part, else_part))
                 .rule(rule)
-                .finishes(2, &[integer(end), integer(7)])
+                .finishes(2, &[once(integer(end)), kept(integer(7))])
         })
     });
     cases.collect()
@@ -110,7 +110,7 @@ fn as_targets_and_guards() -> Vec<Case> {
             let guard = draft("a guard", if_else(expression(), skip(), skip()));
             let guard = match byte {
                 SUM | DIFFERENCE => guard.refused(13, 0, 0, 0),
-                _ => guard.finishes(1, &[integer(5), integer(7)]),
+                _ => guard.finishes(1, &[integer(5), integer(7)].map(kept)),
             };
             [target.refused(13, 0, 0, 0), guard]
         })
@@ -152,7 +152,7 @@ fn present_values() -> Vec<Case> {
     vec![
         case("a slot is doubled twice", says)
             .block(0, sequence(&[doubled(), doubled()]))
-            .finishes(2, &[integer(20), integer(7)]),
+            .finishes(2, &[written(2, integer(20)), kept(integer(7))]),
         case("sum of reads in a row", says)
             .store(views)
             .block(0, set(3, sum(reads(2, 0), reads(3, 2))))
@@ -165,16 +165,17 @@ fn present_values() -> Vec<Case> {
                     set(0, equal(slot(0), literal(read_view(1)))),
                 ]),
             )
-            .finishes(2, &[truth(true), integer(7)]),
+            .finishes(2, &[written(2, truth(true)), kept(integer(7))]),
     ]
 }
 
 /// Slot 2 shows slot 0, which shows slot 1; slot 3 gets 6 and 6.
-fn chain() -> (Bytes, [Bytes; 4]) {
+fn chain() -> (Bytes, [EndSlot; 4]) {
     let opening = [read_view(1), integer(6), read_view(0), integer(9)];
     let slots = opening.clone().map(|value| (0, value));
-    let [first, second, third, _] = opening;
-    (store(&[1], &slots), [first, second, third, integer(12)])
+    let mut end = opening.map(kept);
+    end[3] = once(integer(12));
+    (store(&[1], &slots), end)
 }
 
 const AGAIN: &str = "A while whose guard is true runs its body and judges again.";
@@ -203,7 +204,7 @@ fn loops() -> Vec<Case> {
     vec![
         // 0 + 1 + 2 + 3, in four rounds of a guard and two assignments.
         counted("while slot 1 is less than 4", [0, 0], up.clone())
-            .finishes(13, &[integer(6), integer(4)]),
+            .finishes(13, &[written(4, integer(6)), written(4, integer(4))]),
         counted("while slot 1 is less than 4, budget 12", [0, 0], up.clone())
             .budget(12)
             .refused(17, 0, 0, 12),
@@ -211,9 +212,10 @@ fn loops() -> Vec<Case> {
             .budget(4)
             .refused(17, 0, up_place, 4),
         counted("while 0 is less than what falls by 3", [9, 7], down)
-            .finishes(7, &[integer(9), integer(-2)]),
+            .finishes(7, &[kept(integer(9)), written(3, integer(-2))]),
         counted("while 0 is less than what grows", [9, GREATEST - 1], past)
-            .finishes(5, &[integer(9), integer(LEAST)]),
-        counted("until a slot is 3", [9, 0], until).finishes(7, &[integer(9), integer(3)]),
+            .finishes(5, &[kept(integer(9)), written(2, integer(LEAST))]),
+        counted("until a slot is 3", [9, 0], until)
+            .finishes(7, &[kept(integer(9)), written(3, integer(3))]),
     ]
 }

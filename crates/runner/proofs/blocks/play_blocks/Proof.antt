@@ -12,12 +12,12 @@ use Rattle.runner.proofs.blocks.play_blocks.Statement.{statement}
 use Rattle.runner.proofs.blocks.play_blocks.Tie as tie
 
 abbrev Inv-loop : tie.InvT-loop
-Inv-loop sheet k rows operands payloads held₀ table judges budget block₀ row₀ steps₀ held block row steps =
-    Underway (played (tablesOf rows operands payloads) table judges budget) sheet k (record { block = block₀; row = row₀; steps = steps₀ }) held₀
-    (record { block = block; row = row; steps = steps }) held
+Inv-loop sheet k rows operands payloads held₀ table judges budget block₀ row₀ steps₀ free₀ held block row steps free =
+    Underway (played (tablesOf rows operands payloads) table judges budget) sheet k (record { block = block₀; row = row₀; steps = steps₀; free = free₀ }) held₀
+    (record { block = block; row = row; steps = steps; free = free }) held
 
 abbrev μ-loop : tie.MeasureT-loop
-μ-loop sheet k rows operands payloads held₀ table judges budget block₀ row₀ steps₀ held block row steps = k - block
+μ-loop sheet k rows operands payloads held₀ table judges budget block₀ row₀ steps₀ free₀ held block row steps free = k - block
 
 loop-holds : tie.Need-loop-holds Inv-loop μ-loop
 loop-holds c = underway-start
@@ -63,7 +63,7 @@ add-row c =
     let a = c .before .before .before in
     let h = a .before .before in
     let l = h .before .before .before .before in
-    omega (arith, underway-row (l .loop .inv) (omega arith) _ (is-header h) (l .before .before .pre) _ _ _ (rw (c .before .last .given .1) at (a .play-block .ensures)))
+    omega (arith, underway-row (l .loop .inv) (omega arith) _ (is-header h) (l .before .before .pre) _ _ _ _ (rw (c .before .last .given .1) at (a .play-block .ensures)))
 
 loop-less : tie.Need-loop-less Inv-loop μ-loop
 loop-less c = omega arith
@@ -73,7 +73,7 @@ loop-again c =
     let a = c .before .before .before in
     let h = a .before .before in
     let l = h .before .before .before .before in
-    underway-next (l .loop .inv) (omega arith) _ (is-header h) _ _ _ (rw (c .before .last .given .1) at (a .play-block .ensures))
+    underway-next (l .loop .inv) (omega arith) _ (is-header h) _ _ _ _ (rw (c .before .last .given .1) at (a .play-block .ensures))
 
 enum-known-number : tie.Need-enum-known-number Inv-loop μ-loop
 enum-known-number c = search needs

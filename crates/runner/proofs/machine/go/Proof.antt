@@ -9,11 +9,11 @@ use Rattle.runner.proofs.machine.go.Statement.{statement}
 use Rattle.runner.proofs.machine.go.Tie as tie
 
 abbrev Inv-loop : tie.InvT-loop
-Inv-loop rows operands payloads labels₀ held₀ masks terms budget row steps next₀ labels held next =
-    Goes (given terms masks (tablesOf rows operands payloads) budget) (place row steps labels₀ held₀) labels held (control next)
+Inv-loop rows operands payloads labels₀ held₀ masks terms budget row steps free next₀ labels held next =
+    Goes (given terms masks (tablesOf rows operands payloads) budget) (place row steps free labels₀ held₀) labels held (control next)
 
 abbrev μ-loop : tie.MeasureT-loop
-μ-loop rows operands payloads labels₀ held₀ masks terms budget row steps next₀ labels held next =
+μ-loop rows operands payloads labels₀ held₀ masks terms budget row steps free next₀ labels held next =
     weight (given terms masks (tablesOf rows operands payloads) budget) (control next)
 
 loop-holds : tie.Need-loop-holds Inv-loop μ-loop

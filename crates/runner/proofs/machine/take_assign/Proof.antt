@@ -1,3 +1,4 @@
+use mathlib.Core.Path.{_≡_}
 use native.Mathlib.Omega.{arith}
 use borrow.Author.Needs.{needs}
 use denote.Ref.{now}
@@ -5,15 +6,19 @@ use Rattle.programme.specs.Rows.{tablesOf}
 use Rattle.runner.specs.Answers.{controlBy}
 use Rattle.runner.specs.Machine.{Given, given, Place, place}
 use Rattle.runner.proofs.Moving.{run-inside}
-use Rattle.runner.proofs.Taking.{can-judge, AssignRow, assign-level, assign-operands, assign-slot, assign-on, assign-stops}
+use Rattle.runner.proofs.Taking.{can-judge, AssignRow, assign-level, assign-operands, assign-slot, assign-few, assign-on, assign-stops, full-stops}
 use Rattle.runner.proofs.machine.take_assign.Statement.{statement}
 use Rattle.runner.proofs.machine.take_assign.Tie as tie
 
+returns : tie.Need-returns
+unfolding controlBy
+returns c = full-stops (c .before .pre) (c .if1 .taken)
+
 mul-r : tie.Need-mul-r
-mul-r c = omega (arith, run-inside (c .pre .can .goes .runs))
+mul-r c = omega (arith, run-inside (c .before .pre .can .goes .runs))
 
 element-copy-out-r : tie.Need-element-copy-out-r
-element-copy-out-r c = omega (arith, run-inside (c .pre .can .goes .runs))
+element-copy-out-r c = omega (arith, run-inside (c .before .pre .can .goes .runs))
 
 array-read-wide16 : tie.Need-array-read-wide16
 array-read-wide16 c = search needs
@@ -35,13 +40,13 @@ wide16-requires-3 c κs = search needs
 
 -- the row's numbers, as they were read
 abbrev start : tie.After-wide163 → tie.Start
-start c = c .before .before .before .before
+start c = c .before .before .before .before .before
 
 abbrev gives : tie.Start → Given
 gives s = given (s .args .terms) (now (s .args .masks)) (tablesOf (now (s .args .rows)) (now (s .args .operands)) (now (s .args .payloads))) (s .args .budget)
 
 abbrev stands : tie.Start → Place
-stands s = place (s .args .row) (s .args .steps) (now (s .args .labels)) (now (s .args .held))
+stands s = place (s .args .row) (s .args .steps) (s .args .free) (now (s .args .labels)) (now (s .args .held))
 
 read : (c : tie.After-wide163)
     → AssignRow (gives (start c)) (stands (start c)) (c .before .before .wide16 .result) (c .before .wide162 .result) (c .wide163 .result)
@@ -59,38 +64,49 @@ assign-requires c κs =
     let p = start b .pre in
     (can-judge (p .can), assign-operands p (read b) .0, assign-operands p (read b) .1)
 
-returns : tie.Need-returns
-returns c =
+-- an entry is free
+free : (c : tie.After-wide163) → start c .args .free ≡ 0 → ⊥
+free c = c .before .before .before .before .if1 .left
+
+returns-2 : tie.Need-returns-2
+returns-2 c =
     let b = c .before .before .before .before in
-    assign-stops (start b .pre) (read b) (c .before .assign .result) (c .before .assign .ensures) (c .if1 .taken)
+    assign-stops (start b .pre) (read b) (c .before .assign .result) (c .before .assign .ensures) (free b) (c .if2 .taken)
 
 put-requires : tie.Need-put-requires
 put-requires c κs =
     let a = c .before .before in
     let b = a .before .before .before in
-    assign-slot (start b .pre) (read b) (a .assign .result) (a .assign .ensures) (c .before .if1 .left)
+    let e = c .before .if2 .left in (
+      assign-slot (start b .pre) (read b) (a .assign .result) (a .assign .ensures) e,
+      omega (arith, assign-few (start b .pre) (read b) (a .assign .result) (a .assign .ensures) e),
+    )
 
-add-t31 : tie.Need-add-t31
-add-t31 c =
+add-t33 : tie.Need-add-t33
+add-t33 c =
     let b = c .before .before .before .before .before .before in
     omega (arith, start b .pre .left)
 
-add-t18 : tie.Need-add-t18
-add-t18 c =
+add-t20 : tie.Need-add-t20
+add-t20 c =
     let b = c .before .before .before .before .before .before in
     omega (arith, run-inside (start b .pre .can .goes .runs))
 
-returns-2 : tie.Need-returns-2
+sub-t37 : tie.Need-sub-t37
+sub-t37 c = search needs
+
+returns-3 : tie.Need-returns-3
 unfolding controlBy
-returns-2 c =
+returns-3 c =
     let a = c .before .before .before in
     let b = a .before .before .before in
-    assign-on (start b .pre) (read b) (a .assign .result) (a .assign .ensures) (c .before .before .if1 .left) (c .put .ensures)
+    assign-on (start b .pre) (read b) (a .assign .result) (a .assign .ensures) (free b) (c .before .before .if2 .left) (c .put .ensures)
 
 pub take-assign-spec : {M : Type 1} → statement M
 take-assign-spec =
     tie.close
     (tie.spec
+    returns
     mul-r
     element-copy-out-r
     array-read-wide16
@@ -102,8 +118,9 @@ take-assign-spec =
     mul-branch
     element-copy-out-branch
     assign-requires
-    returns
+    returns-2
     put-requires
-    add-t31
-    add-t18
-    returns-2)
+    add-t33
+    add-t20
+    sub-t37
+    returns-3)

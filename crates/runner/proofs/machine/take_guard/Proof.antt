@@ -38,7 +38,7 @@ abbrev gives : tie.Start → Given
 gives s = given (s .args .terms) (now (s .args .masks)) (tablesOf (now (s .args .rows)) (now (s .args .operands)) (now (s .args .payloads))) (s .args .budget)
 
 abbrev stands : tie.Start → Place
-stands s = place (s .args .row) (s .args .steps) (now (s .args .labels)) (now (s .args .held))
+stands s = place (s .args .row) (s .args .steps) (s .args .free) (now (s .args .labels)) (now (s .args .held))
 
 read : (c : tie.After-wide162) → GuardRow (gives (start c)) (stands (start c)) (c .before .wide16 .result) (c .wide162 .result)
 read c = record { depth-is = c .before .wide16 .ensures; operand-is = c .wide162 .ensures }
@@ -67,11 +67,11 @@ mul-labels-2 c = let b = c .before .before .before .before in omega (arith, guar
 element-write-labels : tie.Need-element-write-labels
 element-write-labels c = let b = c .before .before .before .before in omega (arith, guard-level (start b .pre) (read b))
 
-add-t37 : tie.Need-add-t37
-add-t37 c = let b = c .before .before .before .before .before in omega (arith, start b .pre .left)
-
 add-t38 : tie.Need-add-t38
-add-t38 c = let b = c .before .before .before .before .before in omega (arith, run-inside (start b .pre .can .goes .runs))
+add-t38 c = let b = c .before .before .before .before .before in omega (arith, start b .pre .left)
+
+add-t39 : tie.Need-add-t39
+add-t39 c = let b = c .before .before .before .before .before in omega (arith, run-inside (start b .pre .can .goes .runs))
 
 returns-2 : tie.Need-returns-2
 unfolding controlBy next
@@ -93,8 +93,8 @@ array-read-wide16-3 c = search needs
 wide16-requires-3 : tie.Need-wide16-requires-3
 wide16-requires-3 c κs = search needs
 
-add-t32 : tie.Need-add-t32
-add-t32 c = let b = c .before .before .before .before .before .before .before in omega (arith, start b .pre .left)
+add-t33 : tie.Need-add-t33
+add-t33 c = let b = c .before .before .before .before .before .before .before in omega (arith, start b .pre .left)
 
 returns-3 : tie.Need-returns-3
 unfolding controlBy next
@@ -121,12 +121,12 @@ take-guard-spec =
     element-copy-out-labels
     mul-labels-2
     element-write-labels
-    add-t37
     add-t38
+    add-t39
     returns-2
     mul-again
     element-copy-out-again
     array-read-wide16-3
     wide16-requires-3
-    add-t32
+    add-t33
     returns-3)

@@ -1,11 +1,11 @@
 //! Assignments whose labels stand in every way to an owner and a floor.
 
 use super::*;
+use crate::ample::plain_run;
 use crate::calls::Run;
 use crate::code::programme_sheet;
 use crate::expressions::Expression;
 use crate::lattices::Lattice;
-use crate::play_runs::plain_run;
 use crate::sheets::{Store, Table};
 use crate::steps::Followed;
 use crate::values::Value;
