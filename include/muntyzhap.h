@@ -1,18 +1,20 @@
 /*
  * The proved runner's static library, libcapi.a, for C and C++.
  *
- * A sheet or an output is passed as a pointer and its length in bytes. Where
- * the length is 0 the pointer may be NULL: nothing is read or written through
- * it. The pointers to block, offset and steps may never be NULL. Buffers and
- * numbers that a call writes must not overlap each other or a sheet. The calls
- * keep no pointer, take no memory from the heap and hold no state, so threads
- * may call them at the same time over buffers of their own. A call takes about
- * 77 KiB of stack.
+ * A sheet or an output is passed as a pointer and its length in bytes, a
+ * journal as a pointer and its number of entries. Where the length is 0 the
+ * pointer may be NULL: nothing is read or written through it. The pointers to
+ * block and offset may never be NULL. Buffers and numbers that a call writes
+ * must not overlap each other or a sheet. The calls keep no pointer, take no
+ * memory from the heap and hold no state, so threads may call them at the same
+ * time over buffers of their own. A call takes about 86 KiB of stack.
  *
  * A call's time is bounded by the bytes of its sheets and by its budget: the
  * bytes are gone over once, before the first step, and skips and sequences
- * cost nothing afterwards. The longest call that was found, of a million steps
- * with 255 operations each, took 0.74 s on an AMD EPYC (Genoa).
+ * cost nothing afterwards. A run that finishes is played a second time, up to
+ * its last assignment, to fill the journal; one that is refused is not. The
+ * longest refused call that was found, of a million steps with 255 operations
+ * each, took 0.74 s on an AMD EPYC (Genoa).
  *
  * Every input has an answer: any bytes may be passed as a sheet.
  */
@@ -64,7 +66,7 @@ extern "C" {
 
 /* The rule or the budget is not one that there is. */
 #define MUNTYZHAP_ARGUMENTS 11
-/* The output has not MUNTYZHAP_VALUE_BYTES for each slot. */
+/* The output has not MUNTYZHAP_SLOT_BYTES for each slot. */
 #define MUNTYZHAP_OUTPUT_LENGTH 12
 
 /* Refused while a block runs, at the block and offset of the first byte of the
@@ -85,6 +87,9 @@ extern "C" {
 #define MUNTYZHAP_PROVENANCE_TOO_LOW 16
 /* The budget is spent. */
 #define MUNTYZHAP_BUDGET_SPENT 17
+/* An assignment comes, and no entry of the journal is free. Judged after 17 and
+ * before anything of the assignment's target is evaluated. */
+#define MUNTYZHAP_JOURNAL_FULL 18
 
 /* Rules */
 
@@ -118,6 +123,11 @@ extern "C" {
 #define MUNTYZHAP_PAYLOAD_BYTES 8
 /* A value, in sheets, code and output: its kind byte and its payload. */
 #define MUNTYZHAP_VALUE_BYTES (1 + MUNTYZHAP_PAYLOAD_BYTES)
+/* How often a slot was written: one number, the lowest byte first. */
+#define MUNTYZHAP_COUNT_BYTES 4
+/* A slot in the output: its value, then its count. A store sheet has no
+ * counts: there a slot has MUNTYZHAP_VALUE_BYTES besides its owner. */
+#define MUNTYZHAP_SLOT_BYTES (MUNTYZHAP_VALUE_BYTES + MUNTYZHAP_COUNT_BYTES)
 /* A signed integer, two's complement: an int64_t. */
 #define MUNTYZHAP_KIND_INTEGER 0
 /* The payload is 0 for false or 1 for true. */
@@ -164,6 +174,50 @@ extern "C" {
 #define MUNTYZHAP_IF 0x23
 #define MUNTYZHAP_WHILE 0x24
 
+/* What a run answers and writes */
+
+/* What a slot holds, with a MUNTYZHAP_KIND_ for its kind. The payload has all
+ * its bits: of an integer it is what (uint64_t) makes of an int64_t. */
+struct muntyzhap_value {
+    uint8_t kind;
+    uint64_t payload;
+};
+
+/* An entry of a journal: one assignment that a run made. Compare entries by
+ * their fields: what a call leaves between these is any bytes. */
+struct muntyzhap_entry {
+    /* The block whose command it was, from 0, and the command's first byte in
+     * that block's code, from 0. */
+    size_t block;
+    size_t offset;
+    /* The slot that was written, from 0; what it held before, and what it held
+     * then. The two may be equal. */
+    size_t slot;
+    struct muntyzhap_value old_value;
+    struct muntyzhap_value new_value;
+};
+
+/* How a run ended. */
+struct muntyzhap_answer {
+    /* MUNTYZHAP_FINISHED, or the refusal, 1 to 18. */
+    uint32_t number;
+    /* The place of 9, 10 or 13 to 18; else offset 0, and block 0 for a refusal
+     * and the number of blocks for a run that finished. */
+    size_t block;
+    size_t offset;
+    /* The steps done; a forbidden step is not counted. */
+    uint32_t steps;
+};
+
+/* The sizes that the library has them in: where one differs, this doesn't
+ * compile. */
+typedef char muntyzhap_value_has_16_bytes
+    [sizeof(struct muntyzhap_value) == 16 ? 1 : -1];
+typedef char muntyzhap_entry_has_56_bytes
+    [sizeof(struct muntyzhap_entry) == 56 ? 1 : -1];
+typedef char muntyzhap_answer_has_32_bytes
+    [sizeof(struct muntyzhap_answer) == 32 ? 1 : -1];
+
 /* Calls */
 
 /*
@@ -195,10 +249,13 @@ uint32_t muntyzhap_check_programme(const uint8_t *sheet, size_t sheet_length,
                                    size_t *offset);
 
 /*
- * Checks both sheets and the arguments and runs the blocks in order. Answers 0
- * if they finish, and out is then the end store: the value of each slot, in
- * order. Else it answers the refusal, 1 to 17, and every byte of out stays as
- * it was.
+ * Checks both sheets and the arguments and runs the blocks in order. Answers
+ * number 0 if they finish. Then out is the end store, for each slot in order
+ * its value and how often it was written; and the journal has an entry for each
+ * assignment, in the order in which they were made. So the counts add up to the
+ * entries filled, and a slot's count is how many of them name it. Entries past
+ * these keep what they held. Else the number is the refusal, 1 to 18, and every
+ * byte of out and of the journal stays as it was.
  *
  * store, store_length: the store sheet.
  * programme, programme_length: the programme sheet.
@@ -206,17 +263,18 @@ uint32_t muntyzhap_check_programme(const uint8_t *sheet, size_t sheet_length,
  *   MUNTYZHAP_ARGUMENTS; no byte of it is cut off.
  * budget: the most steps, 0 to MUNTYZHAP_MOST_BUDGET. A step is one guard
  *   judged or one assignment made.
- * out, out_length: the output, MUNTYZHAP_VALUE_BYTES for each slot.
- * block, offset: always written: the place of 9, 10 or 13 to 17; else offset
- *   0, and block 0 for a refusal and the number of blocks for a run that
- *   finished.
- * steps: always written: the steps done; a forbidden step is not counted.
+ * out, out_length: the output, MUNTYZHAP_SLOT_BYTES for each slot.
+ * journal, journal_length: the journal, of any length, 0 too. It takes an entry
+ *   for each assignment that the run makes; where it is too short the run is
+ *   refused by MUNTYZHAP_JOURNAL_FULL. An assignment is a step, so one with as
+ *   many entries as the budget has steps, MUNTYZHAP_MOST_BUDGET at most, is
+ *   never too short. A longer one changes nothing.
  */
-uint32_t muntyzhap_run(const uint8_t *store, size_t store_length,
-                       const uint8_t *programme, size_t programme_length,
-                       uint32_t rule, uint32_t budget, uint8_t *out,
-                       size_t out_length, size_t *block, size_t *offset,
-                       uint32_t *steps);
+struct muntyzhap_answer
+muntyzhap_run(const uint8_t *store, size_t store_length,
+              const uint8_t *programme, size_t programme_length, uint32_t rule,
+              uint32_t budget, uint8_t *out, size_t out_length,
+              struct muntyzhap_entry *journal, size_t journal_length);
 
 #ifdef __cplusplus
 }

@@ -1,12 +1,15 @@
 /* Calls at their edges. A rule is passed as an int, as a C program or a script
- * may have it: no byte of it is cut off. What has no bytes may be NULL. */
+ * may have it: no byte of it is cut off. What has no bytes may be NULL. A
+ * journal may have any length; a refusal leaves every byte of output and journal
+ * as it was, and a run that finishes every byte past its entries. */
 #include "sheets.h"
 
 #include <inttypes.h>
 #include <stdio.h>
 #include <stdlib.h>
+#include <string.h>
 
-enum { SLOTS = 1 };
+enum { SLOTS = 1, OUT_BYTES = SLOTS * MUNTYZHAP_SLOT_BYTES };
 
 static const struct slot slots[SLOTS] = {{CUSTOMER, MUNTYZHAP_KIND_INTEGER, 7}};
 
@@ -23,17 +26,16 @@ static uint32_t run(size_t count, const uint8_t *programme, size_t length,
                     int rule, uint8_t *out, size_t out_length)
 {
     const struct bytes store = store_sheet(slots, count);
-    size_t block, offset;
-    uint32_t steps;
 
     return muntyzhap_run(store.at, store.length, programme, length, rule, 0,
-                         out, out_length, &block, &offset, &steps);
+                         out, out_length, NULL, 0)
+        .number;
 }
 
 static void try_rules(const struct bytes *programme)
 {
     static const int rules[] = {0, 3, 255, 256, 257, 258, 259, 511, 65536, -1};
-    uint8_t out[SLOTS * MUNTYZHAP_VALUE_BYTES];
+    uint8_t out[OUT_BYTES];
     char name[32];
 
     for (size_t i = 0; i < sizeof rules / sizeof rules[0]; i++) {
@@ -46,24 +48,93 @@ static void try_rules(const struct bytes *programme)
 static void try_null(const struct bytes *programme)
 {
     const int rule = MUNTYZHAP_DEFAULT;
-    uint8_t out[SLOTS * MUNTYZHAP_VALUE_BYTES];
+    uint8_t out[OUT_BYTES];
     size_t block, offset;
-    uint32_t steps;
 
     say("check of store NULL", muntyzhap_check_store(NULL, 0));
     say("check of table NULL", muntyzhap_check_table(NULL, 0));
     say("check of programme NULL",
         muntyzhap_check_programme(NULL, 0, PRINCIPALS, SLOTS, &block, &offset));
-    say("store NULL",
-        muntyzhap_run(NULL, 0, programme->at, programme->length, rule, 0, out,
-                      sizeof out, &block, &offset, &steps));
+    say("store NULL", muntyzhap_run(NULL, 0, programme->at, programme->length,
+                                    rule, 0, out, sizeof out, NULL, 0)
+                          .number);
     say("programme NULL", run(SLOTS, NULL, 0, rule, out, sizeof out));
     say("output NULL for one slot",
         run(SLOTS, programme->at, programme->length, rule, NULL, 0));
     say("output NULL for no slots",
         run(0, programme->at, programme->length, rule, NULL, 0));
-    say("all NULL", muntyzhap_run(NULL, 0, NULL, 0, rule, 0, NULL, 0, &block,
-                                  &offset, &steps));
+    say("all NULL",
+        muntyzhap_run(NULL, 0, NULL, 0, rule, 0, NULL, 0, NULL, 0).number);
+}
+
+/* Two writes: slot 0 := 8, then slot 0 := 9. */
+static struct bytes writing(void)
+{
+    struct block block = plain_block(CUSTOMER);
+
+    put_byte(&block.code, MUNTYZHAP_SEQUENCE);
+    put_byte(&block.code, 2);
+    for (integer written = 8; written <= 9; written++) {
+        put_assignment(&block.code, 0);
+        put_literal(&block.code, MUNTYZHAP_KIND_INTEGER, written);
+    }
+    return programme_sheet(&block, 1);
+}
+
+/* What a run was lent, with a mark in every byte. */
+enum { WRITES = 2, MOST_ENTRIES = WRITES + 2, MARK = 0xA5 };
+
+struct lent {
+    uint8_t out[OUT_BYTES];
+    struct muntyzhap_entry journal[MOST_ENTRIES];
+};
+
+/* Whether so many bytes are as they were. */
+static int untouched(const void *from, size_t length)
+{
+    const uint8_t *at = from;
+
+    while (length > 0)
+        if (at[--length] != MARK)
+            return 0;
+    return 1;
+}
+
+/* Says whether the output was written, how many entries from the first on were,
+ * and whether the rest is as it was. */
+static void say_untouched(const struct lent *lent)
+{
+    size_t first = 0;
+
+    while (first < MOST_ENTRIES &&
+           !untouched(&lent->journal[first], sizeof lent->journal[first]))
+        first++;
+    printf("  output %s, entries filled %zu, %s\n",
+           untouched(lent->out, sizeof lent->out) ? "untouched" : "written",
+           first,
+           untouched(&lent->journal[first],
+                     (MOST_ENTRIES - first) * sizeof lent->journal[first])
+               ? "the rest untouched"
+               : "the rest touched");
+}
+
+static void try_journals(void)
+{
+    const struct bytes store = store_sheet(slots, SLOTS);
+    const struct bytes programme = writing();
+    struct lent lent;
+    char name[32];
+
+    for (size_t length = 0; length <= MOST_ENTRIES; length++) {
+        memset(&lent, MARK, sizeof lent);
+        snprintf(name, sizeof name, "journal of length %zu", length);
+        say(name, muntyzhap_run(store.at, store.length, programme.at,
+                                programme.length, MUNTYZHAP_DEFAULT, WRITES,
+                                lent.out, sizeof lent.out,
+                                length > 0 ? lent.journal : NULL, length)
+                      .number);
+        say_untouched(&lent);
+    }
 }
 
 int main(void)
@@ -72,5 +143,6 @@ int main(void)
 
     try_rules(&none);
     try_null(&none);
+    try_journals();
     return EXIT_SUCCESS;
 }

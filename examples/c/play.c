@@ -1,13 +1,11 @@
 #include "play.h"
+#include "report.h"
 
 #include <inttypes.h>
 #include <stdio.h>
-#include <string.h>
 
-enum { BUDGET = 10 };
-
-/* What the output holds before a run. */
-enum { BEFORE = 0xA5 };
+/* A step of the budget is at most one write: as many entries are enough. */
+enum { BUDGET = 10, ENTRIES = BUDGET };
 
 static const char *rule_name(uint32_t rule)
 {
@@ -38,39 +36,31 @@ static const char *meaning(uint32_t answer)
            "floor";
 }
 
-static int untouched(const uint8_t *out, size_t length)
-{
-    while (length > 0)
-        if (out[--length] != BEFORE)
-            return 0;
-    return 1;
-}
-
 void play(const struct slot *slots, size_t slot_count,
           const struct block *blocks, size_t block_count, uint32_t rule)
 {
     const struct bytes store = store_sheet(slots, slot_count);
     const struct bytes programme = programme_sheet(blocks, block_count);
-    /* The store sheet has these bytes too, and found room. */
-    const size_t length = slot_count * MUNTYZHAP_VALUE_BYTES;
-    uint8_t out[ROOM];
-    size_t block, offset;
-    uint32_t steps, answer;
+    /* A slot takes more than half as many bytes of the store sheet, which
+     * found room. */
+    uint8_t out[2 * ROOM];
+    struct muntyzhap_entry journal[ENTRIES];
+    const struct muntyzhap_answer answer = muntyzhap_run(
+        store.at, store.length, programme.at, programme.length, rule, BUDGET,
+        out, slot_count * MUNTYZHAP_SLOT_BYTES, journal, ENTRIES);
 
-    memset(out, BEFORE, sizeof out);
-    answer = muntyzhap_run(store.at, store.length, programme.at,
-                           programme.length, rule, BUDGET, out, length, &block,
-                           &offset, &steps);
     printf("rule %" PRIu32 ", %s\n", rule, rule_name(rule));
-    if (answer == MUNTYZHAP_FINISHED) {
-        printf("finished: %zu blocks, %" PRIu32 " steps\n", block, steps);
+    if (answer.number == MUNTYZHAP_FINISHED) {
+        printf("finished: %zu blocks, %" PRIu32 " steps\n", answer.block,
+               answer.steps);
         print_slots(slots, slot_count, out);
+        print_journal(journal, entries_filled(out, slot_count));
         return;
     }
-    printf("refused by %" PRIu32 " in block %zu at offset %zu, ", answer, block,
-           offset);
-    printf("steps done %" PRIu32 ": %s\n", steps, meaning(answer));
-    printf("the command there: %s\n", command_name(blocks, block, offset));
-    printf("output %s\n",
-           untouched(out, sizeof out) ? "untouched" : "touched");
+    printf("refused by %" PRIu32 " in block %zu at offset %zu, ",
+           answer.number, answer.block, answer.offset);
+    printf("steps done %" PRIu32 ": %s\n", answer.steps,
+           meaning(answer.number));
+    printf("the command there: %s\n",
+           command_name(blocks, answer.block, answer.offset));
 }

@@ -4,8 +4,8 @@
 
 #include "sheets.h"
 
-/* Runs the blocks over the slots, and prints the rule and the end store or the
- * refusal. */
+/* Runs the blocks over the slots, and prints the rule, and then the end store
+ * and what was written, or the refusal. */
 void play(const struct slot *slots, size_t slot_count,
           const struct block *blocks, size_t block_count, uint32_t rule);
 

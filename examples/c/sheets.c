@@ -1,6 +1,5 @@
 #include "sheets.h"
 
-#include <inttypes.h>
 #include <stdio.h>
 #include <stdlib.h>
 
@@ -111,47 +110,6 @@ struct bytes programme_sheet(const struct block *blocks, size_t count)
     for (size_t i = 0; i < count; i++)
         put_bytes(&sheet, &blocks[i].code);
     return sheet;
-}
-
-/* The number in a payload, signed. */
-static integer payload_number(const uint8_t *payload)
-{
-    size_t i = MUNTYZHAP_PAYLOAD_BYTES;
-    integer number = payload[i - 1] & 0x80 ? -1 : 0;
-
-    while (i > 0)
-        number = number * 256 + payload[--i];
-    return number;
-}
-
-static void print_value(const uint8_t *value)
-{
-    integer number = payload_number(value + 1);
-
-    switch (value[0]) {
-    case MUNTYZHAP_KIND_INTEGER:
-        printf("integer %" PRId64 "\n", number);
-        break;
-    case MUNTYZHAP_KIND_TRUTH:
-        printf("truth value %s\n", number == 1 ? "true" : "false");
-        break;
-    case MUNTYZHAP_KIND_READ_VIEW:
-        printf("read view of slot %" PRId64 "\n", number);
-        break;
-    case MUNTYZHAP_KIND_WRITE_VIEW:
-        printf("write view of slot %" PRId64 "\n", number);
-        break;
-    default:
-        printf("unknown kind %d\n", value[0]);
-    }
-}
-
-void print_slots(const struct slot *slots, size_t count, const uint8_t *out)
-{
-    for (size_t i = 0; i < count; i++) {
-        printf("slot %zu, owner %d: ", i, slots[i].owner);
-        print_value(out + i * MUNTYZHAP_VALUE_BYTES);
-    }
 }
 
 const char *command_name(const struct block *blocks, size_t block,

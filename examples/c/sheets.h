@@ -1,4 +1,4 @@
-/* Sheets written from named parts, and what a run leaves, in words. */
+/* Sheets written from named parts. */
 #ifndef SHEETS_H
 #define SHEETS_H
 
@@ -59,9 +59,6 @@ void put_assignment(struct bytes *to, uint8_t slot);
 /* Whole sheets. */
 struct bytes store_sheet(const struct slot *slots, size_t count);
 struct bytes programme_sheet(const struct block *blocks, size_t count);
-
-/* Prints a line for each slot of the end store that a finished run left. */
-void print_slots(const struct slot *slots, size_t count, const uint8_t *out);
 
 /* The name of the command whose first byte stands at a place, or "none". */
 const char *command_name(const struct block *blocks, size_t block,

@@ -30,7 +30,7 @@ pub fn of_floors() -> Result<[Workload; 2], BuildError> {
 }
 
 /// The block alone, over a store where the guard is this principal's.
-fn assignments(name: &'static str, guard: u8, block: Block) -> Result<Workload, BuildError> {
+fn assignments(name: &str, guard: u8, block: Block) -> Result<Workload, BuildError> {
     let mut slots = WRITTEN.to_vec();
     slots.push((guard, Value::Truth(true)));
     let (store, programme) = (store_of_two(&slots)?, programme_sheet(&[block])?);

@@ -3,17 +3,24 @@
 //!
 //! For each workload and rule it prints the best time of each runner, per step
 //! or per run, and their ratio; then how they stand to the demands, the check
-//! of full-size sheets, and the worst step and call found. No time changes its
-//! exit status.
+//! of full-size sheets, what a journal costs, and the worst step and call found.
+//! No time changes its exit status.
+//!
+//! A run that finishes is played twice, the second time up to its last write, to
+//! fill its journal; one that is refused is played once. What the second pass
+//! adds is seen beside the same run refused at its last step, by a budget one
+//! step short (17) or a journal one entry short (18).
 
 #![forbid(unsafe_code)]
 
 mod cases;
 mod code;
 mod floors;
+mod journals;
 mod operations;
 mod python;
 mod report;
+mod runners;
 mod sheets;
 mod timing;
 mod workloads;
@@ -24,16 +31,18 @@ use muntyzhap::BuildError;
 
 use crate::cases::{Cases, Workloads};
 use crate::python::Python;
+use crate::runners::Lent;
 use crate::workloads::ROUNDS;
 
 fn main() -> Result<(), BuildError> {
     let workloads = Workloads::all()?;
-    let mut cases = Cases::of(&workloads);
+    let mut lent = Lent::new();
+    let mut cases = Cases::of(&workloads, &mut lent);
     let mut python = Python::start();
     // A round goes over all cases, so that what else the machine does for a
     // while spoils no case's every time.
     for round in 0..ROUNDS {
-        cases.repeat(round);
+        cases.repeat(round, &mut lent);
         python = python.and_then(Python::repeated);
     }
     for line in report::lines(&cases, python.as_ref()) {

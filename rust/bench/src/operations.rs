@@ -3,8 +3,7 @@
 use muntyzhap::code::*;
 use muntyzhap::{BuildError, Integer, Value, MOST_BUDGET};
 
-use crate::code::forever;
-use crate::workloads::{chain, Workload};
+use crate::workloads::{chain, Body, Workload};
 
 /// How far the counting loop counts: each round has three steps, and one more
 /// guard ends the loop with the budget.
@@ -42,23 +41,38 @@ pub fn of_expressions() -> Result<Vec<Workload>, BuildError> {
 /// The step that evaluates most: 8 reads for the target, and 255 operations over
 /// 256 literals for the value.
 pub fn long_step() -> Result<Workload, BuildError> {
+    let workload = long_assignments()?.forever("h  8 reads, 255 operations")?;
+    Ok(few_by_second(workload))
+}
+
+/// As many of these assignments as a programme can have.
+pub fn long_assignments() -> Result<Body, BuildError> {
+    const MANY: u32 = 5;
     let mut values = chain(0, Value::WriteView(MOST_NESTED as u8));
     values.push(Value::Integer(0));
     let each = assignment(reads(MOST_NESTED, 0)?, mixed(MOST_NESTED)?);
-    let body = forever(sequence(&vec![each; 5])?)?;
-    Ok(Workload {
-        second_budget: FEW_STEPS,
-        rounds: 2,
-        ..Workload::new("h  8 reads, 255 operations", &values, &[body])?
+    Ok(Body {
+        values,
+        command: sequence(&vec![each; MANY as usize])?,
+        steps: MANY,
     })
 }
 
 /// Steps enough that the reading of the sheets counts for little.
 const FEW_STEPS: u32 = 10_000;
 
+/// The same, with few steps for the second runner, and in few rounds.
+pub fn few_by_second(workload: Workload) -> Workload {
+    Workload {
+        second_budget: FEW_STEPS,
+        rounds: 2,
+        ..workload
+    }
+}
+
 /// A loop whose steps are guards, each an evaluation of this expression, which
 /// is true.
-fn guarded(name: &'static str, guard: Expression) -> Result<Workload, BuildError> {
+fn guarded(name: &str, guard: Expression) -> Result<Workload, BuildError> {
     let code = while_command(guard, skip())?;
     Ok(Workload {
         budget: FEW_STEPS,
@@ -67,7 +81,7 @@ fn guarded(name: &'static str, guard: Expression) -> Result<Workload, BuildError
     })
 }
 
-fn one() -> Expression {
+pub fn one() -> Expression {
     literal(Value::Integer(1))
 }
 

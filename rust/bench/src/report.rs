@@ -1,6 +1,6 @@
 //! What the times come to, in lines of text.
 
-use crate::cases::Cases;
+use crate::cases::{Cases, Ended};
 use crate::python::Python;
 use crate::timing::Case;
 use crate::workloads::Unit;
@@ -15,6 +15,9 @@ const MOST_SKIPS: f64 = 3.0;
 const MOST_OF_PYTHON: f64 = 0.6;
 /// The longest that an expression may take, in microseconds.
 const MOST_EVALUATION: f64 = 1.0;
+/// The most that the proved runner's time of a finished run may be of the second
+/// one's, each with its journal. Half is aimed at.
+const MOST_WITH_JOURNAL: f64 = 0.6;
 
 const HEADING: &str = "time in ns                     rule       proved       second  ratio  for";
 
@@ -27,9 +30,10 @@ pub fn lines(cases: &Cases, python: Option<&Python>) -> Vec<String> {
     lines.extend(of_python(cases, python));
     lines.extend(of_expressions(cases));
     lines.extend(of_floors(cases));
+    lines.extend(of_journals(cases));
     let step = worst(cases, Case::proved).map(time_of);
     lines.extend(step.map(|step| format!("worst step found: {step}")));
-    let call = worst(cases, Case::call).map(call_of);
+    let call = worst(cases, Case::whole).map(call_of);
     lines.extend(call.map(|call| format!("worst call found: {call}")));
     lines
 }
@@ -58,16 +62,27 @@ fn of_both_runners(cases: &Cases) -> Vec<String> {
     lines
 }
 
-/// (i).
+/// (i). CPython keeps no journal, so the bound is for one pass, which is what
+/// the run takes that is refused at its last step.
 fn of_python(cases: &Cases, python: Option<&Python>) -> Vec<String> {
     let Some(python) = python else {
         return vec!["i: not compared, as there is no python3 that answers".to_string()];
     };
     let (name, step) = (python.name(), python.step());
-    let heading = format!("i: a step's time by the proved runner to {name}'s, {step:.2} ns");
-    let counting = cases.counting.iter();
-    let verdicts = counting.map(|case| verdict(case, case.proved() / step, MOST_OF_PYTHON));
-    [heading].into_iter().chain(verdicts).collect()
+    let mut lines = vec![format!(
+        "i: a step's time by the proved runner to {name}'s, {step:.2} ns"
+    )];
+    for Ended {
+        finished, spent, ..
+    } in &cases.counting
+    {
+        lines.push(verdict(spent, spent.proved() / step, MOST_OF_PYTHON));
+        let (value, rule) = (finished.proved() / step, finished.rule);
+        lines.push(format!(
+            "   finished, with its journal, rule {rule}: {value:.2}"
+        ));
+    }
+    lines
 }
 
 /// (j).
@@ -84,10 +99,41 @@ fn of_floors(cases: &Cases) -> Vec<String> {
     let pairs = cases.owner.iter().zip(&cases.floor);
     let quotients = pairs.map(|(owner, floor)| {
         let value = floor.proved() / owner.proved();
-        let (name, rule) = (floor.workload.name, floor.rule);
+        let (name, rule) = (&floor.workload.name, floor.rule);
         format!("   {name}, rule {rule}: {value:.2}")
     });
     [heading].into_iter().chain(quotients).collect()
+}
+
+/// (i) and (l). What is refused costs one pass: where nothing is written, a
+/// finished run costs the same, and elsewhere the second pass besides.
+fn of_journals(cases: &Cases) -> Vec<String> {
+    let mut lines = vec![];
+    let heading = "l: a finished run's time with its journal, by the proved runner to the second's";
+    lines.push(heading.to_string());
+    let finished = cases.ended().map(|ended| &ended.finished);
+    lines.extend(finished.map(|case| verdict(case, case.ratio(), MOST_WITH_JOURNAL)));
+    lines.push("l: a finished run's time to that of the same run refused at its end".to_string());
+    lines.extend(cases.ended().map(second_pass));
+    lines
+}
+
+/// What a finished run takes beside the same run refused, and what of it each
+/// write costs.
+fn second_pass(ended: &Ended) -> String {
+    let finished = ended.finished.whole();
+    let beside = |case: &Case| format!("{:.2}", finished / case.whole());
+    let spent = beside(&ended.spent);
+    let full = ended.full.as_ref().map_or("-".to_string(), beside);
+    let added = match ended.writes {
+        0 => "nothing is written".to_string(),
+        writes => {
+            let each = (finished - ended.spent.whole()) / writes as f64;
+            format!("{each:.2} ns more a write")
+        }
+    };
+    let (name, rule) = (&ended.finished.workload.name, ended.finished.rule);
+    format!("   {name}, rule {rule}: {spent} by 17, {full} by 18, {added}")
 }
 
 fn row(case: &Case) -> String {
@@ -113,11 +159,11 @@ fn time_of(case: &Case) -> String {
 
 /// The proved runner's time of a whole call, and of what.
 fn call_of(case: &Case) -> String {
-    told(case, case.call() / 1e6, "ms")
+    told(case, case.whole() / 1e6, "ms")
 }
 
 fn told(case: &Case, time: f64, unit: &str) -> String {
-    let (name, rule) = (case.workload.name, case.rule);
+    let (name, rule) = (&case.workload.name, case.rule);
     format!("{time:.2} {unit} ({name}, rule {rule})")
 }
 
@@ -143,6 +189,6 @@ fn verdict(case: &Case, value: f64, most: f64) -> String {
     } else {
         "ABOVE"
     };
-    let (name, rule) = (case.workload.name, case.rule);
+    let (name, rule) = (&case.workload.name, case.rule);
     format!("   {name}, rule {rule}: {value:.2}, {standing} {most}")
 }

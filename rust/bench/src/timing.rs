@@ -5,31 +5,11 @@ use std::time::{Duration, Instant};
 
 use second_runner::Answer;
 
+use crate::runners::{Call, Lent, Runner, RUNNERS};
 use crate::workloads::{Unit, Workload};
 
 /// How long one repetition takes at least: short runs are played many times.
 const LEAST: Duration = Duration::from_millis(20);
-
-type Runner = fn(&[u8], &[u8], u32, u32, &mut [u8]) -> Answer;
-
-/// The proved runner first.
-const RUNNERS: [Runner; 2] = [proved_run, second_runner::run];
-
-/// One run by the proved runner, answered as the second one does.
-fn proved_run(store: &[u8], programme: &[u8], rule: u32, budget: u32, output: &mut [u8]) -> Answer {
-    let answer = muntyzhap::raw::run(store, programme, rule, budget, output);
-    Answer {
-        number: answer.number,
-        block: narrow(answer.block),
-        offset: narrow(answer.offset),
-        steps: answer.steps,
-    }
-}
-
-/// A place past 32 bits becomes one that no answer has.
-fn narrow(place: usize) -> u32 {
-    u32::try_from(place).unwrap_or(u32::MAX)
-}
 
 /// A workload under a rule, and the best times so far.
 pub struct Case<'a> {
@@ -45,7 +25,7 @@ pub struct Case<'a> {
 
 impl<'a> Case<'a> {
     /// A case that both runners agree on.
-    pub fn new(workload: &'a Workload, rule: u32) -> Case<'a> {
+    pub fn new(workload: &'a Workload, rule: u32, lent: &mut Lent) -> Case<'a> {
         let mut case = Case {
             workload,
             rule,
@@ -54,15 +34,11 @@ impl<'a> Case<'a> {
             best: [f64::INFINITY; 2],
         };
         let budgets = case.budgets();
-        let second = case.agreed_steps(budgets[1]);
-        let proved = if budgets[0] == budgets[1] {
-            second
-        } else {
-            let mut output = vec![0; workload.output];
-            case.play(RUNNERS[0], budgets[0], &mut output).steps
-        };
-        case.steps = [proved, second];
-        case.runs = [0, 1].map(|place| case.enough_runs(RUNNERS[place], budgets[place]));
+        let second = case.agreed_steps(budgets[1], lent);
+        let proved = case.play(RUNNERS[0], budgets[0], lent);
+        case.judge(proved);
+        case.steps = [proved.steps, second];
+        case.runs = [0, 1].map(|place| case.enough_runs(RUNNERS[place], budgets[place], lent));
         case
     }
 
@@ -70,55 +46,69 @@ impl<'a> Case<'a> {
         [self.workload.budget, self.workload.second_budget]
     }
 
-    /// The steps of a run, when both runners give the same answer and output.
-    fn agreed_steps(&self, budget: u32) -> u32 {
-        const UNTOUCHED: u8 = 0xA5;
-        let name = self.workload.name;
-        let [(answer, output), (expected, end)] = RUNNERS.map(|runner| {
-            let mut output = vec![UNTOUCHED; self.workload.output];
-            (self.play(runner, budget, &mut output), output)
-        });
+    /// The steps of a run, when both runners give the same answer, output and
+    /// journal.
+    fn agreed_steps(&self, budget: u32, lent: &mut Lent) -> u32 {
+        let name = &self.workload.name;
+        lent.clear();
+        let answer = self.play(RUNNERS[0], budget, lent);
+        let output = lent.output(self.call(budget)).to_vec();
+        let expected = self.play(RUNNERS[1], budget, lent);
         assert_eq!(answer, expected, "{name}: the answers differ");
+        let end = lent.output(self.call(budget));
         assert_eq!(output, end, "{name}: the outputs differ");
-        let played = matches!(answer.number, 0 | 17);
-        assert!(played, "{name}: refused by {}", answer.number);
+        assert!(lent.same_journals(), "{name}: the journals differ");
+        self.judge(answer);
         answer.steps
     }
 
+    /// A run finishes, or comes to the end of its budget or of its journal.
+    fn judge(&self, answer: Answer) {
+        let played = matches!(answer.number, 0 | 17 | 18);
+        let (name, number) = (&self.workload.name, answer.number);
+        assert!(played, "{name}: refused by {number}");
+    }
+
     /// How many runs make a repetition long enough.
-    fn enough_runs(&self, runner: Runner, budget: u32) -> u32 {
+    fn enough_runs(&self, runner: Runner, budget: u32, lent: &mut Lent) -> u32 {
         let mut runs = 1;
-        while self.time_of(runner, budget, runs) < LEAST {
+        while self.time_of(runner, budget, runs, lent) < LEAST {
             runs *= 2;
         }
         runs
     }
 
     /// Times one repetition of each runner, in turn.
-    pub fn repeat(&mut self) {
+    pub fn repeat(&mut self, lent: &mut Lent) {
         for (place, runner) in RUNNERS.into_iter().enumerate() {
-            let runs = self.runs[place];
-            let time = self
-                .time_of(runner, self.budgets()[place], runs)
-                .as_secs_f64()
-                * 1e9;
+            let (runs, budget) = (self.runs[place], self.budgets()[place]);
+            let time = self.time_of(runner, budget, runs, lent).as_secs_f64() * 1e9;
             self.best[place] = self.best[place].min(time / f64::from(runs));
         }
     }
 
-    fn time_of(&self, runner: Runner, budget: u32, runs: u32) -> Duration {
-        let mut output = vec![0; self.workload.output];
+    fn time_of(&self, runner: Runner, budget: u32, runs: u32, lent: &mut Lent) -> Duration {
         let start = Instant::now();
         for _ in 0..runs {
-            black_box(self.play(runner, budget, &mut output));
+            black_box(self.play(runner, budget, lent));
         }
         start.elapsed()
     }
 
-    fn play(&self, runner: Runner, budget: u32, output: &mut [u8]) -> Answer {
-        let store = black_box(&self.workload.store);
-        let programme = black_box(&self.workload.programme);
-        runner(store, programme, self.rule, budget, output)
+    fn play(&self, runner: Runner, budget: u32, lent: &mut Lent) -> Answer {
+        runner(black_box(self.call(budget)), lent)
+    }
+
+    fn call(&self, budget: u32) -> Call<'a> {
+        let workload = self.workload;
+        Call {
+            store: &workload.store,
+            programme: &workload.programme,
+            rule: self.rule,
+            budget,
+            output: workload.output,
+            journal: workload.journal,
+        }
     }
 
     /// The best time of a step or a run by the proved runner, in nanoseconds.
@@ -143,7 +133,7 @@ impl<'a> Case<'a> {
     }
 
     /// The proved runner's time of a whole call, in nanoseconds.
-    pub fn call(&self) -> f64 {
+    pub fn whole(&self) -> f64 {
         self.best[0]
     }
 

@@ -5,7 +5,9 @@ use muntyzhap::sheet::{output_bytes, MOST_BLOCKS, MOST_CODE, MOST_SLOTS};
 use muntyzhap::{BuildError, Value, MOST_BUDGET};
 
 use crate::code::{filled, filled_widely, forever};
+use crate::journals::long_finished;
 use crate::operations::long_step;
+use crate::runners::MOST_ENTRIES;
 use crate::sheets::{full_store, programme, store_of_one};
 
 /// What a time is divided by.
@@ -15,8 +17,9 @@ pub enum Unit {
     Run,
 }
 
+#[derive(Clone)]
 pub struct Workload {
-    pub name: &'static str,
+    pub name: String,
     pub unit: Unit,
     pub store: Vec<u8>,
     pub programme: Vec<u8>,
@@ -28,24 +31,22 @@ pub struct Workload {
     pub rounds: u32,
     /// The bytes of the output.
     pub output: usize,
+    /// The entries of the journal: enough for any run, unless said otherwise.
+    pub journal: usize,
 }
 
 /// How often a case is timed.
 pub const ROUNDS: u32 = 25;
 
 impl Workload {
-    pub fn new(
-        name: &'static str,
-        values: &[Value],
-        blocks: &[Command],
-    ) -> Result<Workload, BuildError> {
+    pub fn new(name: &str, values: &[Value], blocks: &[Command]) -> Result<Workload, BuildError> {
         let (store, programme) = (store_of_one(values)?, programme(blocks)?);
         Ok(Workload::of_sheets(name, store, programme))
     }
 
-    pub fn of_sheets(name: &'static str, store: Vec<u8>, programme: Vec<u8>) -> Workload {
+    pub fn of_sheets(name: &str, store: Vec<u8>, programme: Vec<u8>) -> Workload {
         Workload {
-            name,
+            name: name.to_string(),
             unit: Unit::Step,
             output: output_bytes(&store),
             store,
@@ -53,6 +54,7 @@ impl Workload {
             budget: MOST_BUDGET,
             second_budget: MOST_BUDGET,
             rounds: ROUNDS,
+            journal: MOST_ENTRIES,
         }
     }
 }
@@ -60,11 +62,25 @@ impl Workload {
 /// (a) to (d): those of which a ratio is asked.
 pub fn of_speed() -> Result<Vec<Workload>, BuildError> {
     Ok(vec![
-        assignments()?,
-        nested_ifs()?,
+        assignments()?.forever("a  assignments in a loop")?,
+        nested_ifs()?.forever("b  ifs nested 8 deep")?,
         chains_of_reads()?,
         short_blocks()?,
     ])
+}
+
+/// What a loop does in each round, over these slots.
+pub struct Body {
+    pub values: Vec<Value>,
+    pub command: Command,
+    /// The steps of a round, without the loop's own guard.
+    pub steps: u32,
+}
+
+impl Body {
+    pub fn forever(self, name: &str) -> Result<Workload, BuildError> {
+        Workload::new(name, &self.values, &[forever(self.command)?])
+    }
 }
 
 /// Two literals, and a copy of each.
@@ -77,16 +93,19 @@ pub fn four_assignments() -> Result<Command, BuildError> {
     ])
 }
 
-fn assignments() -> Result<Workload, BuildError> {
-    let body = forever(four_assignments()?)?;
-    Workload::new("a  assignments in a loop", &[Value::Integer(0); 4], &[body])
+pub fn assignments() -> Result<Body, BuildError> {
+    Ok(Body {
+        values: vec![Value::Integer(0); 4],
+        command: four_assignments()?,
+        steps: 4,
+    })
 }
 
-fn nested_ifs() -> Result<Workload, BuildError> {
+pub fn nested_ifs() -> Result<Body, BuildError> {
     const DEEP: u8 = 8;
     let innermost = assign(DEEP, literal(Value::Integer(1)));
     // Then-part and else-part are taken in turn.
-    let body = (0..DEEP).rev().try_fold(innermost, |inner, slot| {
+    let command = (0..DEEP).rev().try_fold(innermost, |inner, slot| {
         if slot % 2 == 0 {
             if_command(read(slot), inner, skip())
         } else {
@@ -95,7 +114,11 @@ fn nested_ifs() -> Result<Workload, BuildError> {
     })?;
     let mut values: Vec<Value> = (0..DEEP).map(|slot| Value::Truth(slot % 2 == 0)).collect();
     values.push(Value::Integer(0));
-    Workload::new("b  ifs nested 8 deep", &values, &[forever(body)?])
+    Ok(Body {
+        values,
+        command,
+        steps: u32::from(DEEP) + 1,
+    })
 }
 
 /// Slots from `first` on: views to be read in a row, and what the last read
@@ -117,7 +140,7 @@ fn chains_of_reads() -> Result<Workload, BuildError> {
     Workload::new("c  8 reads in a row", &values, &[code])
 }
 
-fn short_blocks() -> Result<Workload, BuildError> {
+pub fn short_blocks() -> Result<Workload, BuildError> {
     let blocks = vec![four_assignments()?; MOST_BLOCKS];
     Workload::new("d  64 short blocks", &[Value::Integer(0); 4], &blocks)
 }
@@ -139,14 +162,14 @@ pub fn of_skipping() -> Result<Vec<[Workload; 2]>, BuildError> {
     ])
 }
 
-fn then_part_skipped(name: &'static str, part: &Command) -> Result<Workload, BuildError> {
+fn then_part_skipped(name: &str, part: &Command) -> Result<Workload, BuildError> {
     let taken = assign(1, literal(Value::Integer(1)));
     let body = if_command(read(0), part.clone(), taken)?;
     let values = [Value::Truth(false), Value::Integer(0)];
     Workload::new(name, &values, &[forever(body)?])
 }
 
-fn else_part_skipped(name: &'static str, part: &Command) -> Result<Workload, BuildError> {
+fn else_part_skipped(name: &str, part: &Command) -> Result<Workload, BuildError> {
     let taken = assign(1, literal(Value::Integer(1)));
     let body = if_command(read(0), taken, part.clone())?;
     let values = [Value::Truth(true), Value::Integer(0)];
@@ -177,6 +200,7 @@ pub fn of_long_steps() -> Result<Vec<Workload>, BuildError> {
         guards_that_jump()?,
         many_slots()?,
         long_step()?,
+        long_finished()?,
     ])
 }
 
@@ -240,7 +264,7 @@ fn many_slots() -> Result<Workload, BuildError> {
 
 /// A guard stands for a body full of skips, which are no steps. The second
 /// runner enters each, so that it is given fewer steps.
-fn skips_for_a_step(name: &'static str, body: Command) -> Result<Workload, BuildError> {
+fn skips_for_a_step(name: &str, body: Command) -> Result<Workload, BuildError> {
     Ok(Workload {
         second_budget: 400,
         ..Workload::new(name, &[], &[forever(body)?])?

@@ -7,12 +7,12 @@
 //! gives one, its place.
 //!
 //! Every length is right by the time the library sees it: a slice is passed
-//! with its own length, and whether that is what a sheet's sizes or the
-//! output's slots ask for, the library judges itself (1, 6, 12).
+//! with its own length, and whether that is what a sheet's sizes ask for, the
+//! library judges itself (1 and 6).
 //!
 //! ```
 //! use muntyzhap::code::{assign, literal, read};
-//! use muntyzhap::sheet::{output_bytes, programme_sheet, store_sheet, Block, Slot};
+//! use muntyzhap::sheet::{programme_sheet, store_sheet, Block, Slot};
 //! use muntyzhap::{run, Rule, Value};
 //!
 //! # fn main() -> Result<(), Box<dyn std::error::Error>> {
@@ -28,15 +28,41 @@
 //!     // Endorsed down to the customer: it may use what comes from there.
 //!     Block::endorsed(laboratory, customer, assign(1, read(0)))?,
 //! ])?;
-//! let mut out = vec![0; output_bytes(&store)];
-//! match run(&store, &programme, Rule::FullProvenance, 1000, &mut out) {
-//!     Ok(finished) => println!("{} blocks in {} steps", finished.blocks, finished.steps),
+//! // At most 1000 steps.
+//! match run(&store, &programme, Rule::FullProvenance, 1000) {
+//!     Ok(finished) => {
+//!         for (number, slot) in finished.slots.iter().enumerate() {
+//!             println!("slot {number}: {}, writes {}", slot.value(), slot.writes());
+//!         }
+//!         println!("{}", finished.report());
+//!     }
 //!     Err(refusal) => println!("{refusal}"),
 //! }
-//! # assert_eq!(out[Value::BYTES..], Value::Integer(42).to_bytes());
+//! # let finished = run(&store, &programme, Rule::FullProvenance, 1000)?;
+//! # assert_eq!(finished.slots[1].value(), Value::Integer(42));
+//! # assert_eq!(
+//! #     finished.report().to_string(),
+//! #     "entry 0: block 0 at offset 0 wrote integer 42 to slot 0 over integer 5\n\
+//! #      entry 1: block 1 at offset 0 wrote integer 42 to slot 1 over integer 7"
+//! # );
 //! # Ok(())
 //! # }
 //! ```
+//!
+//! It prints
+//!
+//! ```text
+//! slot 0: integer 42, writes 1
+//! slot 1: integer 42, writes 1
+//! entry 0: block 0 at offset 0 wrote integer 42 to slot 0 over integer 5
+//! entry 1: block 1 at offset 0 wrote integer 42 to slot 1 over integer 7
+//! ```
+//!
+//! "The caller lends a journal, a slice of entries, and each assignment fills the
+//! next" (document 02, N7). [`run`] lends one that is long enough for its budget,
+//! or as long as its [`Limits`] say, and gives it back as [`Finished::journal`],
+//! an [`Entry`] for each assignment: which block wrote what to which slot, and
+//! what that held before.
 //!
 //! An endorsed block has a floor, the principal down to which it is endorsed:
 //! "an endorsed assignment passes under rules 2 and 3 when the meet of all labels
@@ -50,39 +76,41 @@
 //! [`code`] and [`sheet`] write sheets and read what a run leaves. They are a
 //! convenience and not proved. What no sheet can hold is a [`BuildError`] where
 //! it is made; whatever bytes they make, the library judges. [`raw`] has the same
-//! four calls with the numbers as the library gives them.
+//! four calls with the numbers as the library gives them, and with output and
+//! journal lent by the caller.
 
 #![deny(unsafe_code)]
 #![warn(missing_docs)]
 
 mod build_error;
 pub mod code;
+mod finished;
+mod journal;
 mod library;
+mod limits;
 #[cfg(library_missing)]
 #[doc(hidden)]
 pub mod missing;
 mod refusal;
+mod report;
 mod rule;
 pub mod sheet;
 mod value;
 
 pub use crate::build_error::BuildError;
+pub use crate::finished::Finished;
+pub use crate::journal::Entry;
+pub use crate::limits::{Limits, MOST_BUDGET};
 pub use crate::refusal::{Place, Refusal, Stop};
-pub use crate::rule::{Rule, MOST_BUDGET};
+pub use crate::report::Report;
+pub use crate::rule::Rule;
 pub use crate::value::{Integer, Value};
 
 /// The library's calls with numbers for answers, as document 01 numbers them.
 pub mod raw {
-    pub use crate::library::{check_programme, check_store, check_table, run, Answer};
-}
-
-/// A run that finished.
-#[derive(Debug, Clone, Copy, PartialEq, Eq)]
-pub struct Finished {
-    /// The blocks of the programme; all of them ran.
-    pub blocks: usize,
-    /// The guards judged and the assignments made.
-    pub steps: u32,
+    pub use crate::library::{
+        check_programme, check_store, check_table, run, Answer, Entry, Value,
+    };
 }
 
 /// Checks a store sheet: refused by 1 to 5.
@@ -103,21 +131,28 @@ pub fn check_programme(sheet: &[u8], principals: usize, slots: usize) -> Result<
 }
 
 /// Checks both sheets and the arguments, runs the blocks in order and, if they
-/// finish, writes the end store to `out`, which has [`sheet::output_bytes`] of
-/// the store sheet. A refusal leaves every byte of `out` as it was.
+/// finish, gives what they leave. The limits are a budget of steps alone, or
+/// [`Limits`] with the journal's length too.
+///
+/// # Errors
+/// Any [`Refusal`] but 12: the output is made as long as the store asks.
+///
+/// # Panics
+/// If the library leaves what no run leaves. The proved one does not.
 pub fn run(
     store: &[u8],
     programme: &[u8],
     rule: Rule,
-    budget: u32,
-    out: &mut [u8],
+    limits: impl Into<Limits>,
 ) -> Result<Finished, Refusal> {
-    let answer = raw::run(store, programme, rule.number(), budget, out);
+    let limits = limits.into();
+    let mut out = vec![0; sheet::output_bytes(store)];
+    let mut journal = library::empty_journal(limits.entries());
+    let (rule, budget) = (rule.number(), limits.steps());
+    let answer = raw::run(store, programme, rule, budget, &mut out, &mut journal);
     judged(answer)?;
-    Ok(Finished {
-        blocks: answer.block,
-        steps: answer.steps,
-    })
+    let finished = Finished::read(answer, store, &out, &journal);
+    Ok(finished.expect("the library left what no run leaves"))
 }
 
 fn judged(answer: raw::Answer) -> Result<(), Refusal> {

@@ -1,5 +1,5 @@
-//! The library's calls, declared as `crates/capi/src/lib.rt` has them, and the
-//! same calls over slices. All the unsafe code of the tree is here.
+//! The library's calls, declared as its sources in `crates` have them, and the
+//! same calls over slices. All the unsafe code that a caller needs is here.
 
 #![allow(unsafe_code)]
 
@@ -26,13 +26,13 @@ extern "C" {
         budget: u32,
         out: *mut u8,
         out_length: usize,
-        block: *mut usize,
-        offset: *mut usize,
-        steps: *mut u32,
-    ) -> u32;
+        journal: *mut Entry,
+        journal_length: usize,
+    ) -> Answer;
 }
 
 /// "Each answer is number, block, offset, steps."
+#[repr(C)]
 #[derive(Debug, Clone, Copy, PartialEq, Eq)]
 pub struct Answer {
     /// 0 for finished, else the refusal.
@@ -46,15 +46,6 @@ pub struct Answer {
 }
 
 impl Answer {
-    /// What no call answers. Every answer starts as this, so a number that a
-    /// call left unwritten would show, and none is ever read uninitialised.
-    const UNWRITTEN: Answer = Answer {
-        number: u32::MAX,
-        block: usize::MAX,
-        offset: usize::MAX,
-        steps: u32::MAX,
-    };
-
     /// An answer with three zeros after its number.
     pub fn only(number: u32) -> Answer {
         Answer {
@@ -66,10 +57,38 @@ impl Answer {
     }
 }
 
+/// A value as a journal has it.
+#[repr(C)]
+#[derive(Debug, Clone, Copy, PartialEq, Eq, Default)]
+pub struct Value {
+    /// Its kind byte.
+    pub kind: u8,
+    /// All bits of its payload: a negative integer is in two's complement.
+    pub payload: u64,
+}
+
+/// An entry of a journal: an assignment that was made. The default one is all
+/// zeros.
+#[repr(C)]
+#[derive(Debug, Clone, Copy, PartialEq, Eq, Default)]
+pub struct Entry {
+    /// The number of the block whose command it was.
+    pub block: usize,
+    /// The number of the command's first byte in the block's code.
+    pub offset: usize,
+    /// The slot that was written.
+    pub slot: usize,
+    /// What the slot held before.
+    pub old_value: Value,
+    /// What was written to it.
+    pub new_value: Value,
+}
+
 // Each call below is sound: a slice is handed over as its own pointer and
-// length, no two of the buffers overlap, the library writes nothing but `out`
-// and the numbers of the answer, and it keeps no pointer. What comes back are
-// plain integers, so no number that it could answer is undefined behaviour.
+// length, no two of the buffers overlap, the library writes nothing but `out`,
+// `journal` and the numbers of the answer, and it keeps no pointer. What comes
+// back are plain integers, in the answer and in the entries too, so nothing that
+// it could answer or write is undefined behaviour.
 
 /// The refusal of a store sheet, 1 to 5, or 0.
 pub fn check_store(sheet: &[u8]) -> u32 {
@@ -84,9 +103,12 @@ pub fn check_table(sheet: &[u8]) -> u32 {
 /// The refusal of a programme sheet against `n` principals and `slots` slots,
 /// 6 to 10, or 0; its block and its offset there. No steps are done.
 pub fn check_programme(sheet: &[u8], n: usize, slots: usize) -> Answer {
+    // The two that the call writes start as what it never answers, so that one
+    // left unwritten would show.
     let mut answer = Answer {
-        steps: 0,
-        ..Answer::UNWRITTEN
+        block: usize::MAX,
+        offset: usize::MAX,
+        ..Answer::only(0)
     };
     answer.number = unsafe {
         muntyzhap_check_programme(
@@ -101,11 +123,21 @@ pub fn check_programme(sheet: &[u8], n: usize, slots: usize) -> Answer {
     answer
 }
 
-/// One run: its answer, and its output if the answer is 0. A rule number that
-/// is not 0, 1, 2, 3 or 255 is refused by 11.
-pub fn run(store: &[u8], programme: &[u8], rule: u32, budget: u32, out: &mut [u8]) -> Answer {
-    let mut answer = Answer::UNWRITTEN;
-    answer.number = unsafe {
+/// One run: its answer and, if that is 0, its output, and an entry of the
+/// journal for each assignment made, in order; entries past these keep what
+/// they held. A refusal leaves every byte of both as it was. A rule number that
+/// is not 0, 1, 2, 3 or 255 is refused by 11, an output that has not
+/// [`Slot::BYTES`](crate::sheet::Slot::BYTES) for each slot by 12, and the first
+/// assignment for which no entry is free by 18.
+pub fn run(
+    store: &[u8],
+    programme: &[u8],
+    rule: u32,
+    budget: u32,
+    out: &mut [u8],
+    journal: &mut [Entry],
+) -> Answer {
+    unsafe {
         muntyzhap_run(
             store.as_ptr(),
             store.len(),
@@ -115,10 +147,16 @@ pub fn run(store: &[u8], programme: &[u8], rule: u32, budget: u32, out: &mut [u8
             budget,
             out.as_mut_ptr(),
             out.len(),
-            &mut answer.block,
-            &mut answer.offset,
-            &mut answer.steps,
+            journal.as_mut_ptr(),
+            journal.len(),
         )
-    };
-    answer
+    }
+}
+
+/// A journal of so many entries, all zeros. Its pages are taken from the system
+/// as they are written, so that room which no entry takes costs nothing.
+pub fn empty_journal(length: usize) -> Box<[Entry]> {
+    let journal = Box::<[Entry]>::new_zeroed_slice(length);
+    // Sound: an entry is integers, and zeros are good for each.
+    unsafe { journal.assume_init() }
 }

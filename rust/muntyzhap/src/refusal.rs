@@ -1,5 +1,7 @@
 //! Refusals, each with document 01's number, its place and its meaning.
 
+mod meaning;
+
 use std::error::Error;
 use std::fmt::{self, Display, Formatter};
 
@@ -23,7 +25,7 @@ pub struct Stop {
     pub steps: u32,
 }
 
-/// Why a call was refused. The output is then as it was.
+/// Why a call was refused. Output and journal are then as they were.
 #[derive(Debug, Clone, Copy, PartialEq, Eq)]
 pub enum Refusal {
     /// 1, by the store sheet.
@@ -64,6 +66,10 @@ pub enum Refusal {
     ProvenanceTooLow(Stop),
     /// 17, by a block while it runs.
     BudgetSpent(Stop),
+    /// 18, by a block while it runs: an assignment comes, and the journal has no
+    /// entry left for it. The budget is judged before, the assignment's target
+    /// after.
+    JournalFull(Stop),
     /// A number that document 01 does not have. The library is proved never to
     /// answer one; a later one may have numbers of its own. Whatever is not 0
     /// did not finish, so it is a refusal and never taken for another.
@@ -71,8 +77,9 @@ pub enum Refusal {
 }
 
 impl Refusal {
-    /// The refusal that an answer is; none if its number is 0.
-    pub(crate) fn from_answer(answer: Answer) -> Option<Refusal> {
+    /// The refusal that an answer of [`raw`](crate::raw) is; none if its number
+    /// is 0.
+    pub fn from_answer(answer: Answer) -> Option<Refusal> {
         let place = Place {
             block: answer.block,
             offset: answer.offset,
@@ -100,6 +107,7 @@ impl Refusal {
             15 => Refusal::WriteViewNotAllowed(stop),
             16 => Refusal::ProvenanceTooLow(stop),
             17 => Refusal::BudgetSpent(stop),
+            18 => Refusal::JournalFull(stop),
             _ => Refusal::Unknown(answer),
         })
     }
@@ -124,12 +132,13 @@ impl Refusal {
             Refusal::WriteViewNotAllowed(_) => 15,
             Refusal::ProvenanceTooLow(_) => 16,
             Refusal::BudgetSpent(_) => 17,
+            Refusal::JournalFull(_) => 18,
             Refusal::Unknown(answer) => answer.number,
         }
     }
 
     /// Where it was refused: in code that is not good (9 and 10), or at the
-    /// command whose step was forbidden (13 to 17).
+    /// command whose step was forbidden (13 to 18).
     pub fn place(&self) -> Option<Place> {
         match self {
             Refusal::IllFormedCode(place) | Refusal::NestedTooDeep(place) => Some(*place),
@@ -137,92 +146,16 @@ impl Refusal {
         }
     }
 
-    /// Where the run was stopped, if it had begun (13 to 17).
+    /// Where the run was stopped, if it had begun (13 to 18).
     pub fn stop(&self) -> Option<Stop> {
         match self {
             Refusal::WrongKind(stop)
             | Refusal::NoAuthority(stop)
             | Refusal::WriteViewNotAllowed(stop)
             | Refusal::ProvenanceTooLow(stop)
-            | Refusal::BudgetSpent(stop) => Some(*stop),
+            | Refusal::BudgetSpent(stop)
+            | Refusal::JournalFull(stop) => Some(*stop),
             _ => None,
-        }
-    }
-
-    /// What it means, without its place.
-    pub fn meaning(&self) -> &'static str {
-        match self {
-            Refusal::StoreLength => {
-                "the store sheet's length is not what its sizes say, or it is too short to hold them"
-            }
-            Refusal::StoreLimits => {
-                "the store sheet must have 1 to 32 principals and at most 256 slots"
-            }
-            Refusal::OrderTable => {
-                "the order table is not good: it names principals that there are not, does not \
-                 order those that there are, or leaves two of them without a meet or all without \
-                 a top"
-            }
-            Refusal::Owner => "the owner of a slot is not one of the principals",
-            Refusal::Value => {
-                "the value of a slot is ill-formed: its kind is unknown, its truth value is \
-                 neither 0 nor 1, or its view is of a slot that there is not"
-            }
-            _ => self.meaning_in_programme(),
-        }
-    }
-
-    fn meaning_in_programme(&self) -> &'static str {
-        match self {
-            Refusal::ProgrammeLength => {
-                "the programme sheet's length is not what its sizes say, it is too short to hold \
-                 them, or its block lengths do not add up to its code"
-            }
-            Refusal::ProgrammeLimits => {
-                "the programme sheet may have at most 64 blocks and 16,384 bytes of code"
-            }
-            Refusal::Region => {
-                "the region of a block, or the floor of an endorsed one, is not one of the \
-                 principals"
-            }
-            Refusal::IllFormedCode(_) => {
-                "the code is ill-formed: an unknown byte, a bad count or literal, code that ends \
-                 early, or bytes left over"
-            }
-            Refusal::NestedTooDeep(_) => {
-                "the code is nested too deep: commands may nest 32 deep, and in an expression \
-                 reads and operations together 8 deep"
-            }
-            Refusal::Arguments => {
-                "the rule must be 0, 1, 2, 3 or 255, and the budget at most 1,000,000 steps"
-            }
-            Refusal::OutputLength => "the output must have 9 bytes for each slot of the store",
-            _ => self.meaning_in_run(),
-        }
-    }
-
-    fn meaning_in_run(&self) -> &'static str {
-        match self {
-            Refusal::WrongKind(_) => {
-                "wrong kind: a guard must be a truth value, what is read through must be a read \
-                 view, a target must be a write view, and what a sum, a difference or a less-than \
-                 is of must be two integers"
-            }
-            Refusal::NoAuthority(_) => {
-                "the region lacks authority: it does not stand at or above the owner of the slot \
-                 to be written"
-            }
-            Refusal::WriteViewNotAllowed(_) => {
-                "a write view is not allowed to this region: the owner of its slot does not stand \
-                 at or below the region"
-            }
-            Refusal::ProvenanceTooLow(_) => {
-                "provenance too low: the meet of the labels of target, value and, under rule 3, \
-                 branch stands neither at or above the owner of the slot to be written nor, if the \
-                 block is endorsed, at or above its floor"
-            }
-            Refusal::BudgetSpent(_) => "the budget is spent, and another step was to be done",
-            _ => "a number that this wrapper does not know",
         }
     }
 }
@@ -253,8 +186,8 @@ impl Error for Refusal {}
 mod tests {
     use super::*;
     use crate::code::{MOST_DEPTH, MOST_NESTED};
-    use crate::sheet::{MOST_BLOCKS, MOST_CODE, MOST_PRINCIPALS, MOST_SLOTS};
-    use crate::{Value, MOST_BUDGET};
+    use crate::sheet::{Slot, MOST_BLOCKS, MOST_CODE, MOST_PRINCIPALS, MOST_SLOTS};
+    use crate::MOST_BUDGET;
 
     fn answer(number: u32) -> Answer {
         Answer {
@@ -272,7 +205,7 @@ mod tests {
     #[test]
     fn each_number_has_its_refusal_and_its_own_words() {
         assert_eq!(Refusal::from_answer(answer(0)), None);
-        let mut meanings: Vec<&str> = (1..=18)
+        let mut meanings: Vec<&str> = (1..=19)
             .map(|number| {
                 assert_eq!(refusal(number).number(), number);
                 refusal(number).meaning()
@@ -280,7 +213,7 @@ mod tests {
             .collect();
         meanings.sort();
         meanings.dedup();
-        assert_eq!(meanings.len(), 18, "{meanings:?}");
+        assert_eq!(meanings.len(), 19, "{meanings:?}");
     }
 
     #[test]
@@ -289,7 +222,7 @@ mod tests {
             block: 3,
             offset: 44,
         };
-        for number in 1..=17 {
+        for number in 1..=18 {
             let (refusal, running) = (refusal(number), number >= 13);
             let placed = running || matches!(number, 9 | 10);
             assert_eq!(refusal.place(), placed.then_some(place), "{number}");
@@ -317,7 +250,7 @@ mod tests {
             (10, MOST_DEPTH),
             (10, MOST_NESTED),
             (11, MOST_BUDGET as usize),
-            (12, Value::BYTES),
+            (12, Slot::BYTES),
         ];
         for (number, limit) in limits {
             let meaning = refusal(number).meaning().replace(',', "");
@@ -328,7 +261,7 @@ mod tests {
 
     #[test]
     fn a_number_that_is_not_known_is_a_refusal_of_its_own() {
-        for number in [18, 255, u32::MAX] {
+        for number in [19, 255, u32::MAX] {
             assert_eq!(refusal(number), Refusal::Unknown(answer(number)));
             let words = refusal(number).to_string();
             let expected = format!("refused by {number}: a number that this wrapper does not know");

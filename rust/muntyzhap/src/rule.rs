@@ -1,9 +1,6 @@
-//! Rule sets and the budget.
+//! Rule sets.
 
 use std::fmt::{self, Display, Formatter};
-
-/// The largest budget, in steps. A larger one is refused by 11.
-pub const MOST_BUDGET: u32 = 1_000_000;
 
 /// A rule set, by its number.
 ///

@@ -6,6 +6,7 @@
 //! (9), the library judges.
 
 mod block;
+mod slot;
 
 use std::ops::RangeInclusive;
 
@@ -15,6 +16,7 @@ use crate::refusal::Place;
 use crate::value::Value;
 
 pub use block::Block;
+pub use slot::Slot;
 
 /// The most principals of an order table.
 pub const MOST_PRINCIPALS: usize = 32;
@@ -39,37 +41,8 @@ fn is_principal(number: u8) -> bool {
     usize::from(number) < MOST_PRINCIPALS
 }
 
-/// A slot: who owns it and what it holds.
-#[derive(Debug, Clone, Copy, PartialEq, Eq)]
-pub struct Slot {
-    owner: u8,
-    value: Value,
-}
-
-impl Slot {
-    /// A slot of this principal.
-    ///
-    /// # Errors
-    /// [`BuildError::Owner`] if that is no principal's number.
-    pub fn new(owner: u8, value: Value) -> Result<Slot, BuildError> {
-        match is_principal(owner) {
-            true => Ok(Slot { owner, value }),
-            false => Err(BuildError::Owner(owner)),
-        }
-    }
-
-    /// The number of a principal.
-    pub fn owner(&self) -> u8 {
-        self.owner
-    }
-
-    /// What it holds.
-    pub fn value(&self) -> Value {
-        self.value
-    }
-}
-
 /// A store sheet. Bit j of mask i is set when principal j stands at or below i.
+/// It has no counts of writes: a run starts each at 0.
 ///
 /// # Errors
 /// For no masks or too many, a mask's bit for a principal that there is not, too
@@ -86,8 +59,8 @@ pub fn store_sheet(masks: &[u32], slots: &[Slot]) -> Result<Vec<u8>, BuildError>
         judge_slot(number, slot, masks.len(), slots.len())?;
     }
     sheet.extend(masks.iter().flat_map(|mask| mask.to_le_bytes()));
-    sheet.extend(slots.iter().map(|slot| slot.owner));
-    sheet.extend(slots.iter().flat_map(|slot| slot.value.to_bytes()));
+    sheet.extend(slots.iter().map(Slot::owner));
+    sheet.extend(slots.iter().flat_map(|slot| slot.value().to_bytes()));
     Ok(sheet)
 }
 
@@ -108,14 +81,14 @@ fn judge_slot(
     principals: usize,
     slots: usize,
 ) -> Result<(), BuildError> {
-    if usize::from(slot.owner) >= principals {
+    if usize::from(slot.owner()) >= principals {
         return Err(BuildError::OwnerNotInTable {
             slot: number,
-            owner: slot.owner,
+            owner: slot.owner(),
             principals,
         });
     }
-    match slot.value {
+    match slot.value() {
         Value::ReadView(viewed) | Value::WriteView(viewed) if usize::from(viewed) >= slots => {
             Err(BuildError::View {
                 slot: number,
@@ -127,27 +100,27 @@ fn judge_slot(
     }
 }
 
-/// The bytes that the end store of this sheet takes. 0 for a sheet that can't
+/// The bytes of the output of a run over this sheet. 0 for a sheet that can't
 /// hold its sizes; a run refuses it.
 pub fn output_bytes(store: &[u8]) -> usize {
     let slots = sizes(store).map_or(0, |(_, slots)| slots);
-    slots * Value::BYTES
+    slots * Slot::BYTES
 }
 
 /// The slots of an end store: their owners from the store sheet, their values
-/// from what a finished run wrote. None where the sheet has no owner for each
-/// slot, the output isn't of its length, or an owner or a value is ill-formed.
+/// and counts of writes from what a finished run wrote. None where the sheet has
+/// no owner for each slot, the output isn't of its length, or an owner or a
+/// value is ill-formed.
 pub fn end_store(store: &[u8], out: &[u8]) -> Option<Vec<Slot>> {
     let (principals, slots) = sizes(store)?;
     let first = SIZES + principals * MASK_BYTES;
     let owners = store.get(first..first + slots)?;
-    if out.len() != slots * Value::BYTES {
+    if out.len() != slots * Slot::BYTES {
         return None;
     }
-    let values = out.chunks_exact(Value::BYTES).map(Value::from_bytes);
-    let slots = owners.iter().zip(values);
+    let slots = owners.iter().zip(out.chunks_exact(Slot::BYTES));
     slots
-        .map(|(owner, value)| Slot::new(*owner, value?).ok())
+        .map(|(owner, bytes)| Slot::from_output(*owner, bytes))
         .collect()
 }
 

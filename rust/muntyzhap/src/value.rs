@@ -50,12 +50,17 @@ impl Value {
     /// ill-formed. A view's slot need only be one that some store has.
     pub fn from_bytes(bytes: &[u8]) -> Option<Value> {
         let (kind, payload) = bytes.split_first()?;
-        let number = Integer::from_le_bytes(payload.try_into().ok()?);
-        match *kind {
-            Value::INTEGER => Some(Value::Integer(number)),
-            Value::TRUTH if number == 0 || number == 1 => Some(Value::Truth(number == 1)),
-            Value::READ_VIEW => u8::try_from(number).ok().map(Value::ReadView),
-            Value::WRITE_VIEW => u8::try_from(number).ok().map(Value::WriteView),
+        let payload = u64::from_le_bytes(payload.try_into().ok()?);
+        Value::from_parts(*kind, payload)
+    }
+
+    /// The value of a kind byte and all bits of a payload, unless ill-formed.
+    pub fn from_parts(kind: u8, payload: u64) -> Option<Value> {
+        match kind {
+            Value::INTEGER => Some(Value::Integer(payload.cast_signed())),
+            Value::TRUTH if payload <= 1 => Some(Value::Truth(payload == 1)),
+            Value::READ_VIEW => u8::try_from(payload).ok().map(Value::ReadView),
+            Value::WRITE_VIEW => u8::try_from(payload).ok().map(Value::WriteView),
             _ => None,
         }
     }

@@ -5,41 +5,25 @@ mod parts;
 use muntyzhap::code::{
     assign, assignment, if_command, literal, read, sequence, skip, while_command, Code, CommandKind,
 };
-use muntyzhap::sheet::{command_at, end_store, output_bytes, MOST_BLOCKS};
+use muntyzhap::sheet::{command_at, output_bytes, MOST_BLOCKS};
 use muntyzhap::{
-    check_programme, check_store, check_table, raw, run, Finished, Integer, Place, Refusal, Rule,
-    Value, MOST_BUDGET,
+    check_programme, check_store, check_table, run, Finished, Place, Refusal, Rule, Value,
+    MOST_BUDGET,
 };
+use parts::lent::*;
 use parts::*;
-
-const UNTOUCHED: u8 = 0xA5;
-/// The output's bytes for a store of two slots: "Output is 9 × m bytes."
-const OUTPUT: usize = 2 * Value::BYTES;
 
 fn store() -> Vec<u8> {
     store_of(&MASKS, &slots())
 }
 
-/// Slot 0 := an integer by the low principal, then slot 1 := slot 0 by the high
-/// one.
-fn copying(copied: Integer) -> Vec<u8> {
-    programme_of(&[
-        block(LOW, assign(0, integer(copied))),
-        block(HIGH, assign(1, read(0))),
-    ])
-}
-
-/// Document 01's programme: the integer is 42.
-fn two_blocks() -> Vec<u8> {
-    copying(42)
-}
-
-/// The answer of a run; if it is refused, the output must be as it was.
+/// The answer of a run; if it is refused, what it was lent must be as it was.
 fn answer(store: &[u8], programme: &[u8], rule: Rule, budget: u32) -> Result<Finished, Refusal> {
-    let mut out = vec![UNTOUCHED; output_bytes(store)];
-    let answer = run(store, programme, rule, budget, &mut out);
-    let untouched = out.iter().all(|byte| *byte == UNTOUCHED);
-    assert!(answer.is_ok() || untouched, "{out:?}");
+    let answer = run(store, programme, rule, budget);
+    let lent = Lent::to_run(store, programme, rule.number(), budget, ROOM);
+    let number = answer.as_ref().map_or_else(Refusal::number, |_| 0);
+    assert_eq!(lent.answer.number, number);
+    assert!(answer.is_ok() || lent.is_untouched(), "{lent:?}");
     answer
 }
 
@@ -54,37 +38,6 @@ fn the_written_sheets_are_those_of_the_repository_s_example() {
     let rule = u8::try_from(Rule::AccessControl.number()).expect("a rule byte");
     let head = [[rule].as_slice(), &10_u32.to_le_bytes()].concat();
     assert_eq!([head, store(), two_blocks()].concat(), example);
-}
-
-#[test]
-fn a_finished_run_leaves_its_end_store() {
-    let mut out = [UNTOUCHED; OUTPUT];
-    let finished = run(&store(), &two_blocks(), Rule::AccessControl, 10, &mut out);
-    let expected = Finished {
-        blocks: 2,
-        steps: 2,
-    };
-    assert_eq!(finished, Ok(expected));
-    let end = slots_of([42, 42]).to_vec();
-    assert_eq!(end_store(&store(), &out), Some(end));
-}
-
-/// From the sheet to the output, and from a literal over two slots to it.
-#[test]
-fn every_integer_goes_through_a_run_unchanged() {
-    for telling in TELLING {
-        let bytes = [&[Value::INTEGER], telling.to_le_bytes().as_slice()].concat();
-        let (opening, copied) = (store_of(&MASKS, &slots_of([telling; 2])), store());
-        let (nothing, copying) = (programme_of(&[]), copying(telling));
-        for (store, programme) in [(opening, nothing), (copied, copying)] {
-            let mut out = [UNTOUCHED; OUTPUT];
-            let finished = run(&store, &programme, Rule::AccessControl, 2, &mut out);
-            assert!(finished.is_ok(), "{telling}: {finished:?}");
-            assert_eq!(out.to_vec(), bytes.repeat(2), "{telling}");
-            let end = slots_of([telling; 2]).to_vec();
-            assert_eq!(end_store(&store, &out), Some(end));
-        }
-    }
 }
 
 /// A truth value or a view in its bytes, with one byte of its payload set. The
@@ -123,25 +76,6 @@ fn every_byte_of_a_payload_is_judged() {
             assert_eq!(judged, Err(refused), "{bytes:?}");
         }
     }
-}
-
-#[test]
-fn an_end_store_is_read_only_where_every_length_is_right() {
-    let (store, good) = (store(), [0; OUTPUT]);
-    assert!(end_store(&store, &good).is_some());
-    assert_eq!(end_store(&store, &good[1..]), None);
-    assert_eq!(end_store(&store, &[0; OUTPUT + 1]), None);
-    assert_eq!(end_store(&store[..12], &good), None, "an owner is missing");
-    assert_eq!(end_store(&store[..2], &[]), None, "a size is missing");
-    let ill_formed = [9; OUTPUT];
-    assert_eq!(end_store(&store, &ill_formed), None);
-    let mut unknown_owner = store.clone();
-    unknown_owner[3 + 4 * 2] = 32;
-    assert_eq!(
-        end_store(&unknown_owner, &good),
-        None,
-        "no principal's number"
-    );
 }
 
 #[test]
@@ -220,11 +154,12 @@ fn arguments_are_judged() {
     let past = answer(&store, &programme, Rule::AccessControl, MOST_BUDGET + 1);
     assert_eq!(past, Err(Refusal::Arguments));
     assert!(answer(&store, &programme, Rule::AccessControl, MOST_BUDGET).is_ok());
-    for length in [0, OUTPUT - 1, OUTPUT + 1] {
-        let mut out = vec![UNTOUCHED; length];
-        let refused = run(&store, &programme, Rule::Default, 10, &mut out);
-        assert_eq!(refused, Err(Refusal::OutputLength));
-        assert!(out.iter().all(|byte| *byte == UNTOUCHED));
+    assert_eq!(output_bytes(&store), OUTPUT);
+    for length in (0..2 * OUTPUT).filter(|length| *length != OUTPUT) {
+        let rule = Rule::Default.number();
+        let lent = Lent::new(length, ROOM).run(&store, &programme, rule, 10);
+        assert_eq!(lent.answer.number, Refusal::OutputLength.number());
+        assert!(lent.is_untouched(), "{lent:?}");
     }
 }
 
@@ -234,10 +169,11 @@ fn every_rule_is_known_and_no_other_number() {
     // an int of -1 becomes.
     let wide = [1 << 16, 3 << 24 | 3, -1_i32 as u32];
     for number in (0..=0x1FF).chain(wide) {
-        let mut out = [UNTOUCHED; OUTPUT];
-        let answer = raw::run(&store(), &programme_of(&[]), number, 0, &mut out);
+        let lent = Lent::to_run(&store(), &programme_of(&[]), number, 0, ROOM);
         let known = Rule::from_number(number).is_some();
-        assert_eq!(answer.number, if known { 0 } else { 11 }, "rule {number}");
+        let expected = if known { 0 } else { 11 };
+        assert_eq!(lent.answer.number, expected, "rule {number}");
+        assert_eq!(lent.is_untouched(), !known, "rule {number}");
     }
 }
 

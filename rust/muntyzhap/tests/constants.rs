@@ -6,7 +6,7 @@ use std::collections::BTreeMap;
 use muntyzhap::code::{
     CommandKind, DIFFERENCE, EQUAL, LESS_THAN, LITERAL, MOST_DEPTH, MOST_NESTED, READ, SUM,
 };
-use muntyzhap::sheet::{Block, MOST_BLOCKS, MOST_CODE, MOST_PRINCIPALS, MOST_SLOTS};
+use muntyzhap::sheet::{Block, Slot, MOST_BLOCKS, MOST_CODE, MOST_PRINCIPALS, MOST_SLOTS};
 use muntyzhap::{Place, Refusal, Rule, Stop, Value, MOST_BUDGET};
 
 const HEADER: &str = include_str!("../../../include/muntyzhap.h");
@@ -67,6 +67,7 @@ fn refusals() -> Vec<(&'static str, u64)> {
         ("WRITE_VIEW_NOT_ALLOWED", Refusal::WriteViewNotAllowed(stop)),
         ("PROVENANCE_TOO_LOW", Refusal::ProvenanceTooLow(stop)),
         ("BUDGET_SPENT", Refusal::BudgetSpent(stop)),
+        ("JOURNAL_FULL", Refusal::JournalFull(stop)),
     ];
     let numbered = named.map(|(name, refusal)| (name, refusal.number().into()));
     [&[("FINISHED", 0)], numbered.as_slice()].concat()
@@ -90,6 +91,8 @@ fn rules_and_limits() -> Vec<(&'static str, u64)> {
         ("MOST_BUDGET", MOST_BUDGET as usize),
         ("VALUE_BYTES", Value::BYTES),
         ("PAYLOAD_BYTES", Value::PAYLOAD_BYTES),
+        ("COUNT_BYTES", Slot::COUNT_BYTES),
+        ("SLOT_BYTES", Slot::BYTES),
     ];
     let rules = rules.map(|(name, rule)| (name, rule.number().into()));
     let limits = limits.map(|(name, limit)| (name, limit as u64));

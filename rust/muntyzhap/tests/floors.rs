@@ -4,7 +4,7 @@
 mod parts;
 
 use muntyzhap::code::{assign, assignment, if_command, literal, read, skip, sum, Code, Expression};
-use muntyzhap::sheet::{output_bytes, Block, Slot, MOST_CODE, MOST_PRINCIPALS};
+use muntyzhap::sheet::{Block, Slot, MOST_CODE, MOST_PRINCIPALS};
 use muntyzhap::{check_programme, run, BuildError, Finished, Refusal, Rule, Value, MOST_BUDGET};
 use parts::*;
 use sheets::{hex, BOTTOM, DIAMOND, LEFT, RIGHT, TOP};
@@ -20,18 +20,14 @@ fn store() -> Vec<u8> {
     store_of(&MASKS, &slots())
 }
 
-/// What a run answers and leaves; what it leaves if it is refused is what there
-/// was.
-fn played(store: &[u8], programme: &[u8], rule: Rule) -> (Result<Finished, Refusal>, Vec<u8>) {
-    let mut out = vec![0xA5; output_bytes(store)];
-    let answer = run(store, programme, rule, MOST_BUDGET, &mut out);
-    (answer, out)
+/// What a run answers and leaves.
+fn played(store: &[u8], programme: &[u8], rule: Rule) -> Result<Finished, Refusal> {
+    run(store, programme, rule, MOST_BUDGET)
 }
 
 /// The steps of a run that finished.
 fn steps(store: &[u8], programme: &[u8], rule: Rule) -> Result<u32, Refusal> {
-    let (answer, _) = played(store, programme, rule);
-    answer.map(|finished| finished.steps)
+    played(store, programme, rule).map(|finished| finished.steps)
 }
 
 /// Document 01's two blocks, the second one endorsed down to this floor.
@@ -108,8 +104,8 @@ fn the_region_is_judged_before_the_floor() {
 fn assert_judged(sheet: &[u8], expected: Result<(), Refusal>) {
     assert_eq!(check_programme(sheet, 2, 2), expected, "{sheet:?}");
     for rule in Rule::ALL {
-        let (answer, _) = played(&store(), sheet, rule);
-        assert_eq!(answer.map(|_| ()), expected, "{sheet:?}");
+        let answer = played(&store(), sheet, rule).map(|_| ());
+        assert_eq!(answer, expected, "{sheet:?}");
     }
 }
 

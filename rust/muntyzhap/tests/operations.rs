@@ -4,16 +4,15 @@
 mod parts;
 
 use muntyzhap::code::*;
-use muntyzhap::sheet::{end_store, output_bytes, Slot};
+use muntyzhap::sheet::Slot;
 use muntyzhap::{run, Integer, Refusal, Rule, Value, MOST_BUDGET};
 use parts::*;
 use sheets::{BOTTOM, DIAMOND, LEFT, RIGHT, TOP};
 
 /// The slots that a run leaves.
 fn left_by(store: &[u8], programme: &[u8], rule: Rule) -> Result<Vec<Slot>, Refusal> {
-    let mut out = vec![0; output_bytes(store)];
-    run(store, programme, rule, MOST_BUDGET, &mut out)?;
-    Ok(end_store(store, &out).expect("an end store"))
+    let finished = run(store, programme, rule, MOST_BUDGET)?;
+    Ok(finished.slots)
 }
 
 fn store() -> Vec<u8> {

@@ -1,6 +1,6 @@
 //! What the examples share: the principals, and an end store in words.
 
-use muntyzhap::sheet::end_store;
+use muntyzhap::sheet::Slot;
 
 pub const CUSTOMER: u8 = 0;
 pub const LABORATORY: u8 = 1;
@@ -16,10 +16,10 @@ pub const ORDER: [u32; 4] = [
     1 << BOTTOM,
 ];
 
-/// Prints a line for each slot of the end store that a finished run left.
-pub fn print_slots(store: &[u8], out: &[u8]) {
-    let slots = end_store(store, out).expect("a finished run leaves an end store");
+/// Prints a line for each slot of an end store.
+pub fn print_slots(slots: &[Slot]) {
     for (number, slot) in slots.iter().enumerate() {
-        println!("slot {number}, owner {}: {}", slot.owner(), slot.value());
+        let (owner, value, writes) = (slot.owner(), slot.value(), slot.writes());
+        println!("slot {number}, owner {owner}: {value}, writes {writes}");
     }
 }

@@ -3,7 +3,9 @@
 // Each test file uses its own share of this.
 #![allow(dead_code)]
 
-use muntyzhap::code::{literal, Code, Command, Expression};
+pub mod lent;
+
+use muntyzhap::code::{assign, literal, read, Code, Command, Expression};
 use muntyzhap::sheet::{programme_sheet, store_sheet, Block, Slot};
 use muntyzhap::{check_programme, BuildError, Integer, Place, Refusal, Stop, Value};
 
@@ -53,6 +55,23 @@ pub fn programme_of(blocks: &[Block]) -> Vec<u8> {
 pub fn programme_by(region: u8, command: Command) -> Vec<u8> {
     programme_of(&[block(region, command)])
 }
+
+/// Slot 0 := an integer by the low principal, then slot 1 := slot 0 by the high
+/// one.
+pub fn copying(copied: Integer) -> Vec<u8> {
+    programme_of(&[
+        block(LOW, assign(0, integer(copied))),
+        block(HIGH, assign(1, read(0))),
+    ])
+}
+
+/// Document 01's programme: the integer is 42.
+pub fn two_blocks() -> Vec<u8> {
+    copying(42)
+}
+
+/// The output's bytes for a store of two slots: "a slot takes 13 bytes".
+pub const OUTPUT: usize = 2 * 13;
 
 /// What the library says of one block's code, for a store of two principals and
 /// two slots.
