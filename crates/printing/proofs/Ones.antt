@@ -12,7 +12,7 @@ use lib.Count.{ones, onesIn, ones-cat}
 use lib.Pow.{shl-exact, pow-mono}
 use lib.Dec.{ltb}
 use borrow.Author.Tests.{lt-ltb, le-ltb, ltb-true, ltb-false}
-use Rattle.lattice.specs.Order.{Label, mostPrincipals, mask, bit, below}
+use Rattle.lattice.specs.Order.{Label, mostPrincipals, mask, below}
 use Rattle.lattice.proofs.Bits.{bit-past}
 use Rattle.store.specs.Bytes.{numberAt, filled}
 use Rattle.store.specs.Sheet.{nOf, sizesWidth, maskWidth, orderOf}

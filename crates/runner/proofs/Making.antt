@@ -1,5 +1,5 @@
 -- An assignment that is known to be allowed: it is made, and its entry is the definitions'. Assumes nothing.
-use Prim.Native.Nat.{ℕ, _+_, _<_, _≤_}
+use Prim.Native.Nat.{ℕ, _+_, _<_}
 use mathlib.Core.Path.{_≡_, refl, sym, ap, ap₂, _∙_}
 use mathlib.Core.Bool.{true}
 use mathlib.Core.Logic.{⊎-elim}
@@ -11,23 +11,21 @@ use lib.ListN.{length, getD}
 use Rattle.lattice.proofs.Tests.{and-l, or-at}
 use Rattle.store.specs.declared.Entry.{Entry}
 use Rattle.store.specs.declared.Value.{Value}
-use Rattle.store.specs.Result.{Result, ok, refuse}
 use Rattle.store.specs.Value.{integer, truth, readView, writeView, kinds, wellFormed}
-use Rattle.store.specs.Sheet.{mostSlots, ownerOf}
+use Rattle.store.specs.Sheet.{mostSlots}
 use Rattle.store.specs.Held.{rowOf}
 use Rattle.store.proofs.Result.{not-both}
 use Rattle.programme.specs.Rows.{assignKind}
-use Rattle.calculus.specs.Calculus.{Setting, Store, State, Stop, Write, contents, entryOf, recorded, counted, performed}
+use Rattle.calculus.specs.Calculus.{Store, Write, contents, entryOf, recorded, counted, performed}
 use Rattle.runner.specs.declared.steps.Made.{Made}
 use Rattle.runner.specs.Answers.{making}
-use Rattle.runner.specs.Held.{Serves}
 use Rattle.runner.specs.Running.{operandTables, offsetAt}
 use Rattle.runner.specs.Contracts.{RowRead, JudgesAssignment, PutsWrite}
-use Rattle.runner.specs.Machine.{Given, Place, place, GoesOn, Allows, CanStep}
+use Rattle.runner.specs.Machine.{Given, Place, CanStep}
 use Rattle.runner.specs.Journal.{CanMake, Makes}
 use Rattle.runner.proofs.Answered.{making-refused}
 use Rattle.runner.proofs.Moving.{step-made, step-refused, attempt-free, entry, takes-assign, assign-goes, assign-ends}
-use Rattle.runner.proofs.Taking.{AssignRow, groundsAt, unspent, made-refused, made-as, made, assign-slot, assign-held}
+use Rattle.runner.proofs.Taking.{AssignRow, groundsAt, unspent, made-refused, made-as, made, assign-held}
 
 -- a value that is well-formed is of a known kind
 pub formed-kind : (m : ℕ) (v : Value) → wellFormed m v ≡ true → v .kind < kinds

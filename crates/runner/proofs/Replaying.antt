@@ -1,6 +1,6 @@
 -- A second pass over a run that finishes: entering blocks, going on to the next assignment, and what is left after its write. Assumes nothing.
 use Prim.Native.Nat.{ℕ, _+_, _-_, _^_, _≤_, _<_, min}
-use mathlib.Core.Path.{_≡_, refl, sym, ap, subst, _∙_}
+use mathlib.Core.Path.{_≡_, refl, sym, ap, _∙_}
 use mathlib.Core.List.{List, [], _∷_, _++_, append-assoc}
 use native.Mathlib.Omega.{arith}
 use native.Mathlib.Decide.{ℕ-discrete, decLt}
@@ -12,23 +12,23 @@ use Rattle.store.specs.declared.Entry.{Entry}
 use Rattle.store.specs.Result.{Result, ok, refuse, _>>=_, refusedAs}
 use Rattle.store.proofs.Result.{Post, Any, post-ok, post-self, post-map, post-both, post-bind, post-at, one-value, not-both}
 use Rattle.programme.specs.declared.Header.{Header}
-use Rattle.programme.specs.Rows.{Compiled, size, cmdOperands, mostRows}
+use Rattle.programme.specs.Rows.{Compiled, size, cmdOperands}
 use Rattle.programme.specs.Sheet.{Block, kOf, headerAt}
 use Rattle.calculus.specs.Calculus.{Setting, State, Stop, step, recorded, counted, performed}
-use Rattle.calculus.specs.Blocks.{Halt, haltIn, runBlocks}
+use Rattle.calculus.specs.Blocks.{haltIn, runBlocks}
 use Rattle.calculus.proofs.Appends.{Extends, extends-refl, extends-trans, blocks-extend}
-use Rattle.calculus.proofs.Steps.{Counted, made}
+use Rattle.calculus.proofs.Steps.{made}
 use Rattle.runner.specs.declared.rules.Terms.{Terms}
 use Rattle.runner.specs.declared.blocks.Place.{Place as From}
 use Rattle.runner.specs.Held.{floorHeld, Serves, DoneAs}
 use Rattle.runner.specs.Running.{Runs, ends, assigns, guards, jumps, BlocksAt}
-use Rattle.runner.specs.Machine.{Given, given, Place, place, GoesOn, Allows, Full, Halts, CanGo, CanStep}
+use Rattle.runner.specs.Machine.{Given, given, Place, place, GoesOn, Allows, Full, Halts, CanGo}
 use Rattle.runner.specs.Playing.{Served, Under, HeadersAt, LeftToPlay}
 use Rattle.runner.specs.Journal.{Replayed, playedBy, Finishing, settingIn, Inside, CanTell, CanMake, Makes}
 use Rattle.runner.proofs.Serving.{serves-under}
 use Rattle.runner.proofs.Moving.{step-refused, attempt-full, assign-ends, takes-assign}
 use Rattle.runner.proofs.Going.{paused-stops}
-use Rattle.runner.proofs.Playing.{everywhere, block-goes, left-next, next-under, headers, stand, unrolled}
+use Rattle.runner.proofs.Playing.{everywhere, block-goes, left-next, headers, stand, unrolled}
 
 -- Runs only append to the journal, and stay within the budget
 

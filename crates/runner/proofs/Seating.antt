@@ -1,7 +1,7 @@
 -- Where a second pass stands between its writes: the first block is entered, blocks end, a write is made. Assumes nothing.
 use Prim.Native.Nat.{ℕ, _+_, _-_, _≤_, _<_}
-use mathlib.Core.Path.{_≡_, refl, sym, ap, subst, _∙_}
-use mathlib.Core.Logic.{_⊎_, inl, inr}
+use mathlib.Core.Path.{_≡_, refl, ap, subst, _∙_}
+use mathlib.Core.Logic.{inl, inr}
 use mathlib.Core.List.{List, [], _∷_, _++_}
 use native.Mathlib.Omega.{arith}
 use lib.ListN.{getD, set}
@@ -15,7 +15,7 @@ use Rattle.runner.specs.declared.machine.Ran.the-variants as r
 use Rattle.runner.specs.Machine.{Given, given, place, Halts, CanGo, Ends, Went}
 use Rattle.runner.specs.Held.{DoneAs}
 use Rattle.runner.specs.Playing.{Served, openingPlace, LeftToPlay}
-use Rattle.runner.specs.Journal.{Replayed, Seated, seated, playedBy, Inside, Seat, Outset, Left, Enters, EntersFirst, CanTell, CanMake, Makes}
+use Rattle.runner.specs.Journal.{Replayed, Seated, seated, playedBy, Inside, Seat, Left, Enters, EntersFirst, CanTell, CanMake, Makes}
 use Rattle.runner.proofs.Moving.{run-inside}
 use Rattle.runner.proofs.Playing.{everywhere}
 use Rattle.runner.proofs.Replaying.{full, enter-some, entered, can-tell, w, serves, allows, go-can, after, done-left, there, make-can, made-next}

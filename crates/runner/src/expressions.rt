@@ -25,7 +25,7 @@ pub struct Evaluated {
     pub payload: u64,
 }
 
-fn refused_value(number: u32) -> Evaluated
+pub(crate) fn refused_value(number: u32) -> Evaluated
     requires { ⌜ 0 < number ⌝ }
     ensures { λ r. ⌜ got r ≡ Got.Refused number ⌝ }
 {
@@ -38,7 +38,7 @@ fn refused_value(number: u32) -> Evaluated
 }
 
 // The literal at operand o, from it outwards through its reads. What turns up is judged (15) before it is read through (13).
-fn read_through(
+pub(crate) fn read_through(
     operands: &Operands,
     payloads: &Payloads,
     held: &Held,
@@ -190,7 +190,7 @@ fn fold(
 }
 
 // An expression with operations, from its first operand on.
-fn eval_operations(
+pub(crate) fn eval_operations(
     operands: &Operands,
     payloads: &Payloads,
     held: &Held,

@@ -14,8 +14,8 @@ use super::rules;
 use super::rules::Judges;
 use super::rules::Labels;
 use super::rules::Terms;
+use super::second;
 use super::slots;
-use super::steps;
 use lattice::Masks;
 use lattice::Table;
 use programme::Operands;
@@ -30,7 +30,7 @@ use store::Opened;
 use store::Value;
 
 // Where a second pass stands: the blocks entered, the row that is next, and the steps done.
-pub(crate) type Seat = [usize; 3];
+pub(crate) type Seat = [usize; First::SEAT];
 
 // What the first pass found: the answer, how many writes there are to make again, and what they are made under.
 pub struct First {
@@ -39,6 +39,17 @@ pub struct First {
     pub table: Table,
     pub judges: Judges,
     pub budget: u32,
+}
+
+impl First {
+    // The numbers of a seat, and where each stands.
+    pub const SEAT: usize = 3;
+
+    pub const ENTERED: usize = 0;
+
+    pub const ROW: usize = 1;
+
+    pub const STEPS: usize = 2;
 }
 
 // A run that was refused: no write is made again.
@@ -65,7 +76,7 @@ fn enter(labels: &mut Labels, seat: &mut Seat, n: usize)
 {
     let top = lattice::top_mask(n);
     *labels = [top; Row::DEPTHS];
-    seat[0] += 1;
+    seat[First::ENTERED] += 1;
 }
 
 // What a block of the programme runs under.
@@ -114,7 +125,7 @@ fn make_write(
     let target = machine::wide16(r[Row::FIRST]);
     let value = machine::wide16(r[Row::SECOND]);
     let branch = labels[depth];
-    let made = steps::assign(
+    let made = second::assign(
         operands,
         payloads,
         held,
@@ -139,7 +150,7 @@ fn make_write(
 fn enter_first(labels: &mut Labels, seat: &mut Seat, n: usize)
     ensures { λ r. ⌜ EntersFirst n (now (labels .entry)) (now (labels .exit)) (now (seat .entry)) (now (seat .exit)) ⌝ }
 {
-    if seat[0] == 0 {
+    if seat[First::ENTERED] == 0 {
         enter(labels, seat, n);
     }
 }
@@ -169,9 +180,9 @@ pub(crate) fn next_write<'p, 't, 'a>(
     let budget = first.budget;
     enter_first(labels, seat, n);
     loop {
-        let block = seat[0] - 1;
-        let row = seat[1];
-        let steps = seat[2] as u32;
+        let block = seat[First::ENTERED] - 1;
+        let row = seat[First::ROW];
+        let steps = seat[First::STEPS] as u32;
         let terms = block_terms(programme, first, block);
         match machine::go(
             rows,
@@ -191,8 +202,8 @@ pub(crate) fn next_write<'p, 't, 'a>(
                 steps: done,
                 free: _,
             } => {
-                seat[1] = last + 1;
-                seat[2] = done as usize;
+                seat[First::ROW] = last + 1;
+                seat[First::STEPS] = done as usize;
                 enter(labels, seat, n);
             }
             // No entry is free for the assignment at this row.
@@ -202,8 +213,8 @@ pub(crate) fn next_write<'p, 't, 'a>(
                 at: _,
                 steps: done,
             } => {
-                seat[1] = here + 1;
-                seat[2] = done as usize + 1;
+                seat[First::ROW] = here + 1;
+                seat[First::STEPS] = done as usize + 1;
                 return make_write(
                     rows,
                     operands,
@@ -250,7 +261,7 @@ pub(crate) fn replay<'j, 'p, 't, 'h>(
 {
     let count = first.writes;
     let mut labels = [0u32; Row::DEPTHS];
-    let mut seat = [0usize; 3];
+    let mut seat = [0usize; First::SEAT];
     let mut i = 0;
     while i < count {
         let e = next_write(

@@ -22,6 +22,7 @@ mod expressions;
 mod journal;
 mod machine;
 mod rules;
+mod second;
 mod slots;
 mod steps;
 

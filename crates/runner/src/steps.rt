@@ -83,7 +83,7 @@ fn meet_judged(branches: bool, target: u32, value: u32, branch: u32) -> u32
 }
 
 // Whether the labels that the rule set judges stand at or above the owner, or where the block is endorsed at or above its floor (16).
-fn reliable(terms: Terms, owner: u64, target: u32, value: u32, branch: u32) -> bool
+pub(crate) fn reliable(terms: Terms, owner: u64, target: u32, value: u32, branch: u32) -> bool
     ensures { λ r. ⌜ Relies terms owner target value branch r ⌝ }
 {
     let labels = terms.labels;
@@ -98,7 +98,7 @@ fn reliable(terms: Terms, owner: u64, target: u32, value: u32, branch: u32) -> b
     lattice::has_bit(judged, floor as usize)
 }
 
-fn refused_write(number: u32) -> Made
+pub(crate) fn refused_write(number: u32) -> Made
     requires { ⌜ 0 < number ⌝ }
     ensures { λ r. ⌜ making r ≡ Making.Refused number ⌝ }
 {
