@@ -121,12 +121,12 @@ counts-grow {s} (next {e = e} f w) l i =
     omega (arith, counts-grow w (omega (arith, h)) i, count-written e s i (omega (arith, f .inside)))
 
 -- sums over numbers from i on
-total-add : (i n : ℕ) (f g : ℕ → ℕ) → total (entries i n (λ j. f j + g j)) ≡ total (entries i n f) + total (entries i n g)
+pub total-add : (i n : ℕ) (f g : ℕ → ℕ) → total (entries i n (λ j. f j + g j)) ≡ total (entries i n f) + total (entries i n g)
 unfolding entries total
 total-add i zero f g = omega arith
 total-add i (suc n) f g = omega (arith, total-add (i + 1) n f g)
 
-total-zero : (i n : ℕ) → total (entries i n (λ _. 0)) ≡ 0
+pub total-zero : (i n : ℕ) → total (entries i n (λ _. 0)) ≡ 0
 unfolding entries total
 total-zero i zero = refl
 total-zero i (suc n) = omega (arith, total-zero (i + 1) n)

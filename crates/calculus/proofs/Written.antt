@@ -28,7 +28,7 @@ use Rattle.calculus.proofs.Entries.{run-tells}
 -- A slot in the output
 
 -- its value's bytes, and its count
-value-part : (store : List Slot) (n i : ℕ) → i < n → part (slotsBytes store 0 n) (slotWidth * i) valueWidth ≡ valueBytes (contents store i)
+pub value-part : (store : List Slot) (n i : ℕ) → i < n → part (slotsBytes store 0 n) (slotWidth * i) valueWidth ≡ valueBytes (contents store i)
 unfolding slotBytes
 value-part store n i h =
     let s = getD store i emptySlot in
@@ -47,7 +47,7 @@ count-last s h =
     ∙ ap (λ (l : List ℕ). numberAt countWidth l 0) (take-all countWidth count (omega (arith, length-number countWidth (s .writes))))
     ∙ number-read countWidth (s .writes) h
 
-count-part : (store : List Slot) (n i : ℕ) → i < n → getD store i emptySlot .writes < 256 ^ countWidth
+pub count-part : (store : List Slot) (n i : ℕ) → i < n → getD store i emptySlot .writes < 256 ^ countWidth
     → countAt (slotsBytes store 0 n) i ≡ getD store i emptySlot .writes
 count-part store n i h k =
     sym (number-part countWidth slotWidth (slotsBytes store 0 n) (slotWidth * i) valueWidth (omega arith))

@@ -75,26 +75,33 @@ pub record FullRun (store programme out : List ℕ) : Type 0 where
   pub full : FullRule rule
   pub run : FinishedRun rule store programme out
 
--- Of every programme that meets a condition: whatever bytes an adversary sends, whenever both runs finish, the two outputs agree.
-abbrev pub RunsAgreeWhere : (List ℕ → Type 0) → Tables → Label → List ℕ → List ℕ → Type 0
-RunsAgreeWhere Condition w adversary store store′ =
+-- Of every programme that meets a condition: whatever bytes an adversary sends, whenever both runs finish, the two outputs agree. `Run` says what a
+-- finished run of a store and a programme with an output is.
+abbrev pub AgreeOver : (List ℕ → List ℕ → List ℕ → Type 0) → (List ℕ → Type 0) → Tables → Label → List ℕ → List ℕ → Type 0
+AgreeOver Run Condition w adversary store store′ =
     (p : List ℕ) → Bytes p → Condition p
     → (q q′ : List ℕ) → Bytes q → Bytes q′ → Replacement w adversary p q → Replacement w adversary p q′
-    → (out out′ : List ℕ) → FullRun store q out → FullRun store′ q′ out′ → OutputsAgree w adversary out out′
+    → (out out′ : List ℕ) → Run store q out → Run store′ q′ out′ → OutputsAgree w adversary out out′
+
+abbrev pub RunsAgreeWhere : (List ℕ → Type 0) → Tables → Label → List ℕ → List ℕ → Type 0
+RunsAgreeWhere = AgreeOver FullRun
 
 abbrev pub RunsAgree : Tables → Label → List ℕ → List ℕ → Type 0
 RunsAgree = RunsAgreeWhere NoneEndorsed
 
 -- "for any principal as the stranger and any two good opening stores under one order table and one owner array: the stores are equal in every slot
 -- that the stranger may not write exactly when .. the two full-provenance runs .., if both finish .., end equal in every such slot"
-abbrev pub IsolationWhere : (Tables → Label → List ℕ → Type 0) → Type 0
-IsolationWhere Condition =
+abbrev pub IsolationOf : (List ℕ → List ℕ → List ℕ → Type 0) → (Tables → Label → List ℕ → Type 0) → Type 0
+IsolationOf Run Condition =
     (adversary : Label) (store store′ : List ℕ) (w : Tables) (s s′ : Store)
     → adversary < w .order .n
     → Bytes store → Bytes store′
     → storeSheet store ≡ ok (record { tables = w; store = s })
     → storeSheet store′ ≡ ok (record { tables = w; store = s′ })
-    → StoresAgree w adversary s s′ ↔ RunsAgreeWhere (Condition w adversary) w adversary store store′
+    → StoresAgree w adversary s s′ ↔ AgreeOver Run (Condition w adversary) w adversary store store′
+
+abbrev pub IsolationWhere : (Tables → Label → List ℕ → Type 0) → Type 0
+IsolationWhere = IsolationOf FullRun
 
 -- Demand 3, of "every programme with no endorsed block"
 abbrev pub Isolation : Type 0

@@ -24,4 +24,10 @@ pub mod Faults
 pub mod Misreadings
 pub mod Operations
 pub mod Journalled
+pub mod Paths
+pub mod Stretches
+pub mod Stretched
+pub mod StretchesWorked
+pub mod CheckpointsWorked
+pub mod Forged
 pub mod Promises

@@ -1,4 +1,4 @@
--- The numbers of refusals: code's are 9 and 10, and every refusal of a programme sheet has a number from 1 on. Assumes nothing.
+-- The numbers of refusals: code's are 9 and 10, and those of a programme sheet 6 to 10. Assumes nothing.
 use Prim.Native.Nat.{ℕ, zero, suc, _+_, _≤_}
 use mathlib.Core.List.{List}
 use native.Mathlib.Omega.{arith}
@@ -12,7 +12,7 @@ use Rattle.programme.proofs.Due.{body-deep, expr-reads}
 
 -- code is refused by 9 or 10
 abbrev Numbered : Fault → Type 0
-Numbered e = 9 ≤ e .number
+Numbered e = (9 ≤ e .number) × (e .number ≤ 10)
 
 value : (m : ℕ) (s : List ℕ) (at : ℕ) → Refuses Numbered (readValue m s at)
 unfolding readValue
@@ -65,22 +65,31 @@ block m s =
     refuses-bind _ _ _ (refuses-bind _ _ _ (body mostDeep m s 0) (λ b. refuses-ok _ _)) λ c.
     refuses-require _ _ _ _ (omega arith) (refuses-ok _ _)
 
-pub block-refuses : (m : ℕ) (p : List ℕ) (i : ℕ) → Refuses (λ (a : Answer). 9 ≤ a .number) (blockAt m p i)
+block-numbered : (m : ℕ) (p : List ℕ) (i : ℕ) → Refuses (λ (a : Answer). (9 ≤ a .number) × (a .number ≤ 10)) (blockAt m p i)
 unfolding blockAt
-block-refuses m p i = refuses-bind _ _ _ (post-refused-as _ _ _ _ (block m _)) (λ c. refuses-ok _ _)
+block-numbered m p i = refuses-bind _ _ _ (post-refused-as _ _ _ _ (block m _)) (λ c. refuses-ok _ _)
+
+blocks-numbered : (m : ℕ) (p : List ℕ) (n i : ℕ) → Refuses (λ (a : Answer). (9 ≤ a .number) × (a .number ≤ 10)) (blocksFrom m p n i)
+unfolding blocksFrom
+blocks-numbered m p zero i = refuses-ok _ _
+blocks-numbered m p (suc n) i =
+    refuses-bind _ _ _ (block-numbered m p i) λ b. refuses-bind _ _ _ (blocks-numbered m p n (i + 1)) (λ bs. refuses-ok _ _)
+
+pub programme-numbered : (n m : ℕ) (p : List ℕ) → Refuses (λ (a : Answer). (6 ≤ a .number) × (a .number ≤ 10)) (programmeSheet n m p)
+unfolding programmeSheet unplaced
+programme-numbered n m p =
+    refuses-require _ _ _ _ (omega arith) (
+    refuses-require _ _ _ _ (omega arith) (
+    refuses-require _ _ _ _ (omega arith) (
+    refuses-require _ _ _ _ (omega arith) (
+    refuses-require _ _ _ _ (omega arith) (
+    post-map _ _ _ _ _ (blocks-numbered m p (kOf p) 0) (λ bs h. h) (λ a h. (omega (arith, h .0), h .1)))))))
+
+pub block-refuses : (m : ℕ) (p : List ℕ) (i : ℕ) → Refuses (λ (a : Answer). 9 ≤ a .number) (blockAt m p i)
+block-refuses m p i = post-map _ _ _ _ _ (block-numbered m p i) (λ c h. h) (λ a h. h .0)
 
 pub blocks-refuse : (m : ℕ) (p : List ℕ) (n i : ℕ) → Refuses (λ (a : Answer). 9 ≤ a .number) (blocksFrom m p n i)
-unfolding blocksFrom
-blocks-refuse m p zero i = refuses-ok _ _
-blocks-refuse m p (suc n) i =
-    refuses-bind _ _ _ (block-refuses m p i) λ b. refuses-bind _ _ _ (blocks-refuse m p n (i + 1)) (λ bs. refuses-ok _ _)
+blocks-refuse m p n i = post-map _ _ _ _ _ (blocks-numbered m p n i) (λ bs h. h) (λ a h. h .0)
 
 pub programme-refuses : (n m : ℕ) (p : List ℕ) → Refuses (λ (a : Answer). Positive (a .number)) (programmeSheet n m p)
-unfolding programmeSheet unplaced
-programme-refuses n m p =
-    refuses-require _ _ _ _ (omega arith) (
-    refuses-require _ _ _ _ (omega arith) (
-    refuses-require _ _ _ _ (omega arith) (
-    refuses-require _ _ _ _ (omega arith) (
-    refuses-require _ _ _ _ (omega arith) (
-    post-map _ _ _ _ _ (blocks-refuse m p (kOf p) 0) (λ bs h. h) (λ a h. omega arith))))))
+programme-refuses n m p = post-map _ _ _ _ _ (programme-numbered n m p) (λ bs h. h) (λ a h. omega (arith, h .0))

@@ -23,15 +23,21 @@ use Rattle.programme.proofs.Starts.{programmed}
 use Rattle.calculus.specs.Rules.{RuleSet}
 use Rattle.calculus.specs.Calculus.{Limits, limits, State}
 use Rattle.calculus.specs.Blocks.{Halt, haltAnswer, runBlocks, start}
+use Rattle.calculus.specs.Stretches.{Halted, takeUpBlocks}
+use Rattle.calculus.proofs.BlocksAside.{haltOf, blocks-aside}
 use Rattle.calculus.specs.Run.{Finished, runProgramme, answerOf, outputOf, entriesOf}
 use Rattle.runner.specs.declared.rules.Judges.{Judges}
 use Rattle.runner.specs.declared.journal.First.{First}
 use Rattle.runner.specs.declared.blocks.Place.{Place}
 use Rattle.runner.specs.declared.blocks.Ended.{Ended}
 use Rattle.runner.specs.declared.blocks.Ended.the-variants as e
-use Rattle.runner.specs.Held.{StoreHeld}
-use Rattle.runner.specs.Playing.{judgesOf, Played, played, HeadersAt, AllUnder, openingPlace, LeftToPlay, EndedAs, finished, halted, PlaysOn, CanPlayOn}
+use Rattle.runner.specs.Held.{topMask, StoreHeld}
+use Rattle.runner.specs.Running.{rowsBefore}
+use Rattle.runner.specs.Playing.{judgesOf, Played, played, HeadersAt, AllUnder, openingPlace, LeftToPlay, Loaded, ToPlay, PausesAs, EndedAs, finished, halted, PlaysOn, CanPlayOn}
 use Rattle.runner.specs.Journal.{Nothing, replayed, openingSeat, opens, playedBy, Left}
+use Rattle.runner.proofs.Serving.{top-held}
+use Rattle.runner.proofs.Playing.{everywhere}
+use Rattle.runner.proofs.Underway.{at-start}
 use Rattle.runner.specs.Whole.{Passes, OpeningHeld, TakenIn, Finishes, CanFinish}
 
 -- the next block of a programme that was read
@@ -91,24 +97,27 @@ written-whole held m old small room =
 
 -- What the end of a run of blocks says
 
-record FinishedAs (w : Tables) (l : Limits) (rows : List (List ℕ)) (n free : ℕ) (r : Result Halt State) : Type 0 where
+pub record FinishedAs (w : Tables) (l : Limits) (rows : List (List ℕ)) (n free : ℕ) (r : Result Halted State) : Type 0 where
   pub state : State
   pub held : StoreHeld w (state .store) rows
   pub count : state .steps ≡ n
   pub entries : length (state .journal) + free ≡ l .entries
   pub same : r ≡ ok state
 
-ended-finished : {w : Tables} {l : Limits} {rows : List (List ℕ)} {n free : ℕ} {r : Result Halt State} → EndedAs w l rows (e.Finished n free) r → FinishedAs w l rows n free r
+pub ended-finished : {w : Tables} {l : Limits} {g : Played} {bs : List Block} {labels : List ℕ} {rows : List (List ℕ)} {n free : ℕ} {r : Result Halted State}
+    → EndedAs w l g bs labels rows (e.Finished n free) r → FinishedAs w l rows n free r
 ended-finished (finished {s = s} h c j) = record { state = s; held = h; count = c; entries = j; same = refl }
 
-record HaltedAs (n b o t : ℕ) (r : Result Halt State) : Type 0 where
-  pub halt : Halt
-  pub says : haltAnswer halt ≡ record { number = n; block = b; offset = o; steps = t }
+pub record HaltedAs (w : Tables) (g : Played) (bs : List Block) (labels : List ℕ) (rows : List (List ℕ)) (n b i o t : ℕ) (r : Result Halted State) : Type 0 where
+  pub halt : Halted
+  pub says : haltAnswer (haltOf halt) ≡ record { number = n; block = b; offset = o; steps = t }
+  pub paused : n ≡ 17 → PausesAs w g bs labels rows i halt
   pub same : r ≡ refuse halt
 
-ended-halted : {w : Tables} {l : Limits} {rows : List (List ℕ)} {n b o t : ℕ} {r : Result Halt State} → EndedAs w l rows (e.Halted n b o t) r → HaltedAs n b o t r
+pub ended-halted : {w : Tables} {l : Limits} {g : Played} {bs : List Block} {labels : List ℕ} {rows : List (List ℕ)} {n b i o t : ℕ} {r : Result Halted State}
+    → EndedAs w l g bs labels rows (e.Halted n b i o t) r → HaltedAs w g bs labels rows n b i o t r
 unfolding haltAnswer
-ended-halted (halted {h = h} x y z u) = record { halt = h; says = rw (x, y, z, u); same = refl }
+ended-halted (halted {h = h} x y z u p) = record { halt = h; says = rw (x, y, z, u); paused = p; same = refl }
 
 -- an opened store and a programme that was taken in can be played
 module _ (o : Opening) (t : Opened) (held : List (List ℕ)) (h : OpeningHeld o t held) (j : Judges) (rules : RuleSet) (q : j ≡ judgesOf (ok rules)) (p : List ℕ) (g : Played)
@@ -140,6 +149,23 @@ module _ (o : Opening) (t : Opened) (held : List (List ℕ)) (h : OpeningHeld o 
         kept = omega arith;
         means = refl;
       }
+
+  pub loaded-all : (k : ℕ) → k ≡ kOf p → Loaded (o .tables) g p k bs
+  loaded-all k e =
+      let y = programmed _ _ p bs (x .sheet) in
+      record {
+        headers = blocks-headers _ _ p (kOf p) 0 bs (λ i l. y .headers i (omega arith)) (y .reads);
+        stand = x .stand;
+        count = blocks-count _ p (kOf p) 0 bs (y .reads) ∙ sym e;
+      }
+
+  -- from the start
+  pub play-all : (l : Limits) → l .budget ≡ g .budget → (k : ℕ) (e : k ≡ kOf p) (top : ℕ) → top ≡ topMask (t .table .n)
+      → ToPlay (o .tables) rules l g k bs (openingPlace (l .entries)) (everywhere top) held (takeUpBlocks (o .tables) rules l 0 bs [] (start (o .store)))
+  unfolding start rowsBefore
+  play-all l b k e top f =
+      at-start all-under (loaded-all k e) (openingPlace (l .entries)) top held (start (o .store)) _
+      (rw (f, tables) (top-held (o .tables .order) (h .grounds .table))) b (omega arith) refl (h .store-held) refl (λ i. omega (arith, h .unwritten i)) (omega arith) refl
 
   pub sheet-room : codeAt (kOf p) ≤ length p
   sheet-room = let y = programmed _ _ p bs (x .sheet) in omega (arith, y .lengths .size)
@@ -179,29 +205,40 @@ module _ (t : Opened) (j : Judges) (budget entries : ℕ) (p : List ℕ) (compil
   abbrev within : Limits
   within = limits budget entries
 
-  pub finish-can : CanFinish t j p compiled held → CanPlayOn by p k (openingPlace entries) held
-  finish-can c =
-      let s = c .start in
-      let o = s .opening in
-      record {
-        tables = o .tables;
-        rules = s .rules;
-        under = all-under o t held (s .opening-held) j (s .rules) (s .judges) p by (c .blocks) (c .taken) refl refl;
-        limits = within;
-        whole = _;
-        left = left-all o t held (s .opening-held) j (s .rules) (s .judges) p by (c .blocks) (c .taken) refl refl within refl k q;
-        count = q;
-        sheet = rw q (sheet-room o t held (s .opening-held) j (s .rules) (s .judges) p by (c .blocks) (c .taken) refl refl);
-      }
+  module _ (top : ℕ) (f : top ≡ topMask (t .table .n)) where
+    pub finish-can : CanFinish t j p compiled held → CanPlayOn by p k (openingPlace entries) (everywhere top) held
+    finish-can c =
+        let s = c .start in
+        let o = s .opening in
+        record {
+          tables = o .tables;
+          rules = s .rules;
+          under = all-under o t held (s .opening-held) j (s .rules) (s .judges) p by (c .blocks) (c .taken) refl refl;
+          limits = within;
+          blocks = c .blocks;
+          loaded = loaded-all o t held (s .opening-held) j (s .rules) (s .judges) p by (c .blocks) (c .taken) refl refl k q;
+          whole = _;
+          left = play-all o t held (s .opening-held) j (s .rules) (s .judges) p by (c .blocks) (c .taken) refl refl within refl k q top f;
+          count = q;
+          sheet = rw q (sheet-room o t held (s .opening-held) j (s .rules) (s .judges) p by (c .blocks) (c .taken) refl refl);
+        }
 
-  module _ (held′ : List (List ℕ)) (old : List ℕ) where
+  module _ (top : ℕ) (f : top ≡ topMask (t .table .n)) (labels′ : List ℕ) (held′ : List (List ℕ)) (old : List ℕ) where
     module _ (rules : RuleSet) (o : Opening) (bs : List Block) (h : OpeningHeld o t held) (d : j ≡ judgesOf (ok rules)) (x : TakenIn o p compiled bs) where
+      abbrev taken-up : Result Halted State
+      taken-up = takeUpBlocks (o .tables) rules within 0 bs [] (start (o .store))
+
       abbrev whole : Result Halt State
       whole = runBlocks (o .tables) rules within 0 bs (start (o .store))
 
-      ended : (r : Ended) → PlaysOn by p k (openingPlace entries) held held′ r → EndedAs (o .tables) within held′ r whole
-      ended r f =
-          f (o .tables) rules within _ (all-under o t held h j rules d p by bs x refl refl) (left-all o t held h j rules d p by bs x refl refl within refl k q)
+      ended : (r : Ended) → PlaysOn by p k (openingPlace entries) (everywhere top) held labels′ held′ r → EndedAs (o .tables) within by bs labels′ held′ r taken-up
+      ended r z =
+          z (o .tables) rules within bs _ (all-under o t held h j rules d p by bs x refl refl) (loaded-all o t held h j rules d p by bs x refl refl k q)
+          (play-all o t held h j rules d p by bs x refl refl within refl k q top f)
+
+      -- without its paths
+      aside : (r : Result Halted State) → taken-up ≡ r → whole ≡ refusedAs haltOf r
+      aside r e = sym (blocks-aside (o .tables) rules within 0 bs (start (o .store))) ∙ ap (λ (z : Result Halted State). refusedAs haltOf z) e
 
       -- the writes that a second pass is to make
       writes-left : (s : State) (r : First) → whole ≡ ok s → r .table ≡ t .table → r .judges ≡ j → r .budget ≡ budget
@@ -226,21 +263,22 @@ module _ (t : Opened) (j : Judges) (budget entries : ℕ) (p : List ℕ) (compil
             left = m;
           })
 
-    pub finish-few : CanFinish t j p compiled held → (n free : ℕ) → PlaysOn by p k (openingPlace entries) held held′ (e.Finished n free) → free ≤ entries
-    finish-few c n free f =
+    pub finish-few : CanFinish t j p compiled held → (n free : ℕ) → PlaysOn by p k (openingPlace entries) (everywhere top) held labels′ held′ (e.Finished n free) → free ≤ entries
+    finish-few c n free y =
         let s = c .start in
-        omega (arith, ended-finished (ended (s .rules) (s .opening) (c .blocks) (s .opening-held) (s .judges) (c .taken) (e.Finished n free) f) .entries)
+        omega (arith, ended-finished (ended (s .rules) (s .opening) (c .blocks) (s .opening-held) (s .judges) (c .taken) (e.Finished n free) y) .entries)
 
-    pub finish-done : (n free : ℕ) (out : List ℕ) → PlaysOn by p k (openingPlace entries) held held′ (e.Finished n free) → out ≡ outAfter held′ (fitting (t .slots) (length old)) old
+    pub finish-done : (n free : ℕ) (out : List ℕ) → PlaysOn by p k (openingPlace entries) (everywhere top) held labels′ held′ (e.Finished n free) → out ≡ outAfter held′ (fitting (t .slots) (length old)) old
         → Finishes t j budget entries p compiled held old out
         (record { answer = record { number = 0; block = k; offset = 0; steps = n }; writes = entries - free; table = t .table; judges = j; budget = budget })
     unfolding openedOf runProgramme answerOf outputOf entriesOf refusedAs _>>=_
-    finish-done n free out f w rules o bs h d x room =
+    finish-done n free out v w rules o bs h d x room =
         let slots : t .slots ≡ o .tables .slots = ap (λ (z : Opened). z .slots) (h .opened) in
         let y = programmed _ _ p bs (x .sheet) in
-        let z = ended-finished (ended rules o bs h d x (e.Finished n free) f) in
+        let z = ended-finished (ended rules o bs h d x (e.Finished n free) v) in
+        let same : whole rules o bs h d x ≡ ok (z .state) = aside rules o bs h d x _ (z .same) in
         let count : length bs ≡ k = blocks-count _ p (kOf p) 0 bs (y .reads) ∙ sym q in
-        rw (z .same)
+        rw same
         (record {
           answered = rw (z .count, count) refl;
           written =
@@ -249,12 +287,13 @@ module _ (t : Opened) (j : Judges) (budget entries : ℕ) (p : List ℕ) (compil
               ∙ rows-bytes (o .tables) (z .state .store) 0 (o .tables .slots) (omega (arith, h .small));
           many = omega (arith, z .entries);
           fits = omega arith;
-          left = writes-left rules o bs h d x (z .state) _ (z .same) refl refl refl _ refl;
+          left = writes-left rules o bs h d x (z .state) _ same refl refl refl _ refl;
         })
 
-    pub finish-halt : (n b i m : ℕ) (r : First) → PlaysOn by p k (openingPlace entries) held held′ (e.Halted n b i m)
+    pub finish-halt : (n b w i m : ℕ) (r : First) → PlaysOn by p k (openingPlace entries) (everywhere top) held labels′ held′ (e.Halted n b w i m)
         → Nothing (record { number = n; block = b; offset = i; steps = m }) r → Finishes t j budget entries p compiled held old old r
     unfolding runProgramme refusedAs _>>=_
-    finish-halt n b i m r f c rules o bs h d x room =
-        let z = ended-halted (ended rules o bs h d x (e.Halted n b i m) f) in
-        refused-passes _ entries p compiled held old _ r (rw (z .same, z .says)) c
+    finish-halt n b w i m r v c rules o bs h d x room =
+        let z = ended-halted (ended rules o bs h d x (e.Halted n b w i m) v) in
+        let same : whole rules o bs h d x ≡ refuse (haltOf (z .halt)) = aside rules o bs h d x _ (z .same) in
+        refused-passes _ entries p compiled held old _ r (rw (same, z .says)) c

@@ -6,14 +6,15 @@ use mathlib.Core.List.{List}
 use native.Mathlib.Omega.{arith}
 use lib.ListN.{getD}
 use native.Mathlib.Decide.{ℕ-discrete}
-use Rattle.store.specs.Result.{Result}
+use Rattle.store.specs.Result.{Result, refuse}
 use Rattle.programme.specs.Rows.{endKind, assignKind, guardKind, jumpKind, mostRows}
-use Rattle.calculus.specs.Calculus.{Setting, State, Stop}
+use Rattle.calculus.specs.Calculus.{Setting, State, stopAt}
+use Rattle.calculus.specs.Paths.{Pause, pauseAt}
 use Rattle.runner.specs.declared.machine.Next.{Next}
 use Rattle.runner.specs.declared.machine.Ran.the-variants as r
 use Rattle.runner.specs.Answers.{Control, control}
 use Rattle.runner.specs.Held.{Serves, StopsAs}
-use Rattle.runner.specs.Running.{kindAt, offsetAt}
+use Rattle.runner.specs.Running.{kindAt, offsetAt, Span}
 use Rattle.runner.specs.Machine.{Given, Place, place, GoesOn, Allows, Paused, Full, Halts, Moves, Within, Moved, CanGo, CanMove, CanTake, CanStep, Ends, Went}
 use Rattle.runner.proofs.Answered.{control-on, control-stopped}
 use Rattle.runner.proofs.Moving.{step-spent, step-refused, attempt-full, assign-ends, guard-ends, takes-assign, takes-guard, takes-jump, run-ends, step-due, run-inside, less-jump, less-stop}
@@ -27,7 +28,7 @@ unfolding Moves Within
 jump-on {g} {p} c target k e =
     let j = takes-jump (c .can .goes .runs) k in
     record {
-      same = λ w last room whole h b o.
+      same = λ w span room whole h b o.
           let t = takes-jump (o .runs) k in
           record { labels = o .labels; state = o .state; labels-held = o .labels-held; state-held = o .state-held; runs = rw (e, t .stands .holds) (t .then) };
       less = less-jump g (p .row) (p .steps) (p .free) target k (j .stands .early) (rw (e, j .stands .holds) (j .stands .falls));
@@ -45,7 +46,7 @@ module _ {g : Given} {p : Place} (c : CanTake g p) where
   unfolding Moves Within
   spent-stops e =
       record {
-        same = λ w last room whole h b o.
+        same = λ w span room whole h b o.
             record {
               paused = λ _. record { due = due; spent = e; goes = o };
               full = λ k. absurd (omega arith);
@@ -68,20 +69,20 @@ module _ {g : Given} {p : Place} (c : CanTake g p) where
 -- The loop: what is left to do comes to what the whole comes to
 
 pub record Goes (g : Given) (p : Place) (labels : List ℕ) (store : List (List ℕ)) (x : Control) : Type 0 where
-  pub means : (w : Setting) (last room : ℕ) (whole : Result Stop State) → Serves w (g .terms) (g .masks) → Allows w g room
-      → GoesOn w (g .tables) last room p whole → Moves w g last room labels store x whole
+  pub means : (w : Setting) (span : Span) (room : ℕ) (whole : Result Pause State) → Serves w (g .terms) (g .masks) → Allows w g room
+      → GoesOn w (g .tables) span room p whole → Moves w g span room labels store x whole
   pub within : Within (g .budget) x
 
 module _ {g : Given} {p : Place} (c : CanGo g p) where
   pub opening : Goes g p (p .labels) (p .store) (Control.On (p .row) (p .steps) (p .free))
   unfolding Moves Within
-  opening = record { means = λ w last room whole h b o. o; within = c .within }
+  opening = record { means = λ w span room whole h b o. o; within = c .within }
 
   module _ {labels : List ℕ} {store : List (List ℕ)} where
     goes-on : {row steps free : ℕ} → Goes g p labels store (Control.On row steps free)
-        → GoesOn (c .setting) (g .tables) (c .last) (c .room) (place row steps free labels store) (c .whole)
+        → GoesOn (c .setting) (g .tables) (c .span) (c .room) (place row steps free labels store) (c .whole)
     unfolding Moves
-    goes-on o = o .means (c .setting) (c .last) (c .room) (c .whole) (c .serves) (c .enough) (c .goes)
+    goes-on o = o .means (c .setting) (c .span) (c .room) (c .whole) (c .serves) (c .enough) (c .goes)
 
     -- every row that it comes to is one
     pub row-inside : (x : Next) → Goes g p labels store (control x) → x .row < mostRows
@@ -103,7 +104,7 @@ module _ {g : Given} {p : Place} (c : CanGo g p) where
                 serves = c .serves;
                 room = c .room;
                 enough = c .enough;
-                last = c .last;
+                span = c .span;
                 whole = c .whole;
                 goes = goes-on o;
                 within = o .within;
@@ -115,15 +116,15 @@ module _ {g : Given} {p : Place} {labels : List ℕ} {store : List (List ℕ)} w
   pub moved : {row steps free : ℕ} {labels′ : List ℕ} {store′ : List (List ℕ)} {x : Control} → Goes g p labels store (Control.On row steps free)
       → Moved g (place row steps free labels store) labels′ store′ x → Goes g p labels′ store′ x
   unfolding Moves
-  moved o m = record { means = λ w last room whole h b q. m .same w last room whole h b (o .means w last room whole h b q); within = m .within }
+  moved o m = record { means = λ w span room whole h b q. m .same w span room whole h b (o .means w span room whole h b q); within = m .within }
 
   pub finished : {row steps free : ℕ} → Goes g p labels store (Control.On row steps free) → kindAt (g .tables) row ≡ endKind
       → Went g p labels store (r.Done row steps free)
   unfolding Moves Ends
   finished o e =
       record {
-        ends = λ w last room whole h b q.
-            let m = o .means w last room whole h b q in
+        ends = λ w span room whole h b q.
+            let m = o .means w span room whole h b q in
             let z = run-ends (m .runs) e in
             (z .0, record { state = m .state; held = m .state-held; means = z .1 });
       }
@@ -131,34 +132,33 @@ module _ {g : Given} {p : Place} {labels : List ℕ} {store : List (List ℕ)} w
   pub halted : {number row at steps free : ℕ} → Goes g p labels store (Control.Stopped number row steps free) → at ≡ offsetAt (g .tables) row
       → Went g p labels store (r.Stopped number row at steps)
   unfolding Moves Ends
-  halted {free = free} o e = record { ends = λ w last room whole h b q. (e, (free, o .means w last room whole h b q)) }
+  halted {free = free} o e = record { ends = λ w span room whole h b q. (e, (free, o .means w span room whole h b q)) }
 
 -- Within the machine's own limits a run that is paused is stopped by 17 or 18 ..
-module _ (w : Setting) (g : Given) (last room : ℕ) (p : Place) (whole : Result Stop State) (b : w .limits .budget ≡ g .budget) where
-  pub paused-stops : Paused w g last room p whole → StopsAs 17 (offsetAt (g .tables) (p .row)) (p .steps) whole
-  paused-stops z =
+module _ (w : Setting) (g : Given) (span : Span) (room : ℕ) (p : Place) (whole : Result Pause State) (b : w .limits .budget ≡ g .budget) where
+  pub paused-means : (z : Paused w g span room p whole)
+      → whole ≡ refuse (pauseAt (span .path (p .row) (z .goes .labels)) (stopAt (offsetAt (g .tables) (p .row)) (z .goes .state) 17))
+  paused-means z =
       let o = z .goes in
       let e : o .state .steps ≡ w .limits .budget = o .state-held .steps ∙ z .spent ∙ sym b in
-      record {
-        state = o .state;
-        counted = o .state-held .steps;
-        means =
-            ⊎-elim
-            (λ k. let t = takes-assign (o .runs) k in rw (t .stands .holds) (assign-ends t _ (step-spent w (t .at) (o .state) _ e)))
-            (λ k. let t = takes-guard (o .runs) k in rw (t .stands .holds) (guard-ends t _ (step-spent w (t .at) (o .state) _ e)))
-            (z .due);
-      }
+      ⊎-elim
+      (λ k. let t = takes-assign (o .runs) k in rw (t .stands .holds) (assign-ends t _ (step-spent w (t .at) (o .state) _ e)))
+      (λ k. let t = takes-guard (o .runs) k in rw (t .stands .holds) (guard-ends t _ (step-spent w (t .at) (o .state) _ e)))
+      (z .due)
 
-  full-stops : w .limits .entries ≡ room → Full w g last room p whole → StopsAs 18 (offsetAt (g .tables) (p .row)) (p .steps) whole
+  pub paused-stops : Paused w g span room p whole → StopsAs 17 (offsetAt (g .tables) (p .row)) (p .steps) whole
+  paused-stops z = record { path = _; state = z .goes .state; counted = z .goes .state-held .steps; means = paused-means z }
+
+  full-stops : w .limits .entries ≡ room → Full w g span room p whole → StopsAs 18 (offsetAt (g .tables) (p .row)) (p .steps) whole
   full-stops e z =
       let o = z .goes in
       let t = takes-assign (o .runs) (z .due) in
       let a = attempt-full w (getD (o .labels) (t .depth) 0) (o .state) (t .x) (t .v) (omega (arith, o .state-held .entries, z .none, e)) in
       let l : o .state .steps ≡ w .limits .budget → ⊥ = λ q. omega (arith, o .state-held .steps, z .left, b, q) in
-      record { state = o .state; counted = o .state-held .steps; means = rw (t .stands .holds) (assign-ends t _ (step-refused w (t .at) (o .state) _ 18 l a)) }
+      record { path = span .path (p .row) (o .labels); state = o .state; counted = o .state-held .steps; means = rw (t .stands .holds) (assign-ends t _ (step-refused w (t .at) (o .state) _ 18 l a)) }
 
   -- .. and so a run that was stopped is stopped by its number.
-  pub halts-stops : (number : ℕ) → w .limits .entries ≡ room → Halts w g last room number p whole
+  pub halts-stops : (number : ℕ) → w .limits .entries ≡ room → Halts w g span room number p whole
       → StopsAs number (offsetAt (g .tables) (p .row)) (p .steps) whole
   halts-stops number e z = go (ℕ-discrete number 17) (ℕ-discrete number 18)
     where

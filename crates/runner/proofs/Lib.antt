@@ -15,10 +15,15 @@ pub mod Taking
 pub mod Making
 pub mod Going
 pub mod Standing
+pub mod Prefixes
+pub mod Laying
 pub mod Compiling
+pub mod Resuming
 pub mod Evaluating
 pub mod Starting
+pub mod Extending
 pub mod Playing
+pub mod Underway
 pub mod Replaying
 pub mod Seating
 pub mod Ending

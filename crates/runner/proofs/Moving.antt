@@ -18,10 +18,11 @@ use Rattle.programme.specs.Syntax.{Expr}
 use Rattle.programme.specs.Code.{mostDeep}
 use Rattle.programme.specs.Rows.{Compiled, endKind, assignKind, guardKind, jumpKind, mostRows}
 use Rattle.calculus.specs.Calculus.{Setting, Store, State, Stop, Judged, Write, judge, assignment, step, attempt, counted, performed, stopAt}
+use Rattle.calculus.specs.Paths.{Pause, pauseAt}
 use Rattle.calculus.proofs.Refusals as refusals
 use Rattle.runner.specs.Answers.{Control}
 use Rattle.runner.specs.Held.{LabelHeld}
-use Rattle.runner.specs.Running.{kindAt, AssignAt, GuardAt, JumpAt, next, Runs, ends, assigns, guards, jumps}
+use Rattle.runner.specs.Running.{kindAt, AssignAt, GuardAt, JumpAt, next, Span, InSpan, Runs, ends, assigns, guards, jumps}
 use Rattle.runner.specs.Machine.{Given, LabelsHeld, rank, weight}
 use Rattle.runner.proofs.Labels.{meet-held}
 
@@ -42,13 +43,14 @@ module _ {A : Type 0} (w : Setting) (at : ℕ) (s : State) (r : Result ℕ A) wh
   unfolding step refusedAs require
   step-spent e = rw (eq-eqb (s .steps) (w .limits .budget) e)
 
-module _ {E A B : Type 0} (r : Result E A) (k : A → Result E B) where
-  ok-then : (a : A) → r ≡ ok a → (r >>= k) ≡ k a
-  unfolding _>>=_
+-- what follows a step, whose refusal is said in other terms
+module _ {E F A B : Type 0} (f : E → F) (r : Result E A) (k : A → Result F B) where
+  ok-then : (a : A) → r ≡ ok a → (refusedAs f r >>= k) ≡ k a
+  unfolding _>>=_ refusedAs
   ok-then a e = rw e
 
-  refuse-then : (x : E) → r ≡ refuse x → (r >>= k) ≡ refuse x
-  unfolding _>>=_
+  refuse-then : (x : E) → r ≡ refuse x → (refusedAs f r >>= k) ≡ refuse (f x)
+  unfolding _>>=_ refusedAs
   refuse-then x e = rw e
 
 -- an entry is free for an assignment, or none is
@@ -83,95 +85,102 @@ module _ (w : Setting) (s : Store) where
 
 -- The row at hand
 
-module _ (w : Setting) (t : Compiled) (last row : ℕ) (l : List Label) (s : State) (whole : Result Stop State) where
+module _ (w : Setting) (t : Compiled) (span : Span) (row : ℕ) (l : List Label) (s : State) (whole : Result Pause State) where
   pub record TakesAssign : Type 0 where
     pub depth : ℕ
     pub at : ℕ
     pub x : Expr
     pub v : Expr
-    pub k : Write → Result Stop State
+    pub k : Write → Result Pause State
     pub stands : AssignAt t row depth at x v
-    pub means : whole ≡ (step w at s (attempt w (getD l depth 0) s x v) >>= k)
-    pub then : (y : Write) → step w at s (attempt w (getD l depth 0) s x v) ≡ ok y → Runs w t last (row + 1) l (performed w at y s) (k y)
+    pub means : whole ≡ (refusedAs (pauseAt (span .path row l)) (step w at s (attempt w (getD l depth 0) s x v)) >>= k)
+    pub then : (y : Write) → step w at s (attempt w (getD l depth 0) s x v) ≡ ok y → Runs w t span (row + 1) l (performed w at y s) (k y)
 
   pub record TakesGuard : Type 0 where
     pub depth : ℕ
     pub at : ℕ
     pub g : Expr
     pub other : ℕ
-    pub k : Judged → Result Stop State
+    pub k : Judged → Result Pause State
     pub stands : GuardAt t row depth at g other
-    pub means : whole ≡ (step w at s (judge w (s .store) g) >>= k)
+    pub means : whole ≡ (refusedAs (pauseAt (span .path row l)) (step w at s (judge w (s .store) g)) >>= k)
     pub then : (j : Judged) → step w at s (judge w (s .store) g) ≡ ok j
-        → Runs w t last (next (j .passes) row other) (set l (depth + 1) (meet (w .tables .order) (getD l depth 0) (j .label))) (counted s) (k j)
+        → Runs w t span (next (j .passes) row other) (set l (depth + 1) (meet (w .tables .order) (getD l depth 0) (j .label))) (counted s) (k j)
 
   pub record TakesJump : Type 0 where
     pub target : ℕ
     pub stands : JumpAt t row target
-    pub then : Runs w t last target l s whole
+    pub then : Runs w t span target l s whole
 
 -- a step that is made goes on, and one that is refused is the end
-module _ {w : Setting} {t : Compiled} {last row : ℕ} {l : List Label} {s : State} {whole : Result Stop State} where
-  module _ (a : TakesAssign w t last row l s whole) where
+module _ {w : Setting} {t : Compiled} {span : Span} {row : ℕ} {l : List Label} {s : State} {whole : Result Pause State} where
+  module _ (a : TakesAssign w t span row l s whole) where
     pub assign-goes : (y : Write) → step w (a .at) s (attempt w (getD l (a .depth) 0) s (a .x) (a .v)) ≡ ok y
-        → Runs w t last (row + 1) l (performed w (a .at) y s) whole
-    assign-goes y e = rw (a .means ∙ ok-then _ (a .k) y e) (a .then y e)
+        → Runs w t span (row + 1) l (performed w (a .at) y s) whole
+    assign-goes y e = rw (a .means ∙ ok-then _ _ (a .k) y e) (a .then y e)
 
-    pub assign-ends : (x : Stop) → step w (a .at) s (attempt w (getD l (a .depth) 0) s (a .x) (a .v)) ≡ refuse x → whole ≡ refuse x
-    assign-ends x e = a .means ∙ refuse-then _ (a .k) x e
+    pub assign-ends : (x : Stop) → step w (a .at) s (attempt w (getD l (a .depth) 0) s (a .x) (a .v)) ≡ refuse x → whole ≡ refuse (pauseAt (span .path row l) x)
+    assign-ends x e = a .means ∙ refuse-then _ _ (a .k) x e
 
-  module _ (a : TakesGuard w t last row l s whole) where
+  module _ (a : TakesGuard w t span row l s whole) where
     pub guard-goes : (j : Judged) (b : Bool) (to : ℕ) → step w (a .at) s (judge w (s .store) (a .g)) ≡ ok j → j .passes ≡ b → to ≡ next b row (a .other)
-        → Runs w t last to (set l (a .depth + 1) (meet (w .tables .order) (getD l (a .depth) 0) (j .label))) (counted s) whole
-    guard-goes j b to e p q = rw (a .means ∙ ok-then _ (a .k) j e, q, ← p) (a .then j e)
+        → Runs w t span to (set l (a .depth + 1) (meet (w .tables .order) (getD l (a .depth) 0) (j .label))) (counted s) whole
+    guard-goes j b to e p q = rw (a .means ∙ ok-then _ _ (a .k) j e, q, ← p) (a .then j e)
 
-    pub guard-ends : (x : Stop) → step w (a .at) s (judge w (s .store) (a .g)) ≡ refuse x → whole ≡ refuse x
-    guard-ends x e = a .means ∙ refuse-then _ (a .k) x e
+    pub guard-ends : (x : Stop) → step w (a .at) s (judge w (s .store) (a .g)) ≡ refuse x → whole ≡ refuse (pauseAt (span .path row l) x)
+    guard-ends x e = a .means ∙ refuse-then _ _ (a .k) x e
 
 -- what stands in a row that is known
 pub entry : {r r′ : List ℕ} (i : ℕ) → r ≡ r′ → getD r i 0 ≡ getD r′ i 0
 entry i e = ap (λ (r : List ℕ). getD r i 0) e
 
-module _ {w : Setting} {t : Compiled} {last row : ℕ} {l : List Label} {s : State} {whole : Result Stop State} where
-  pub takes-assign : Runs w t last row l s whole → kindAt t row ≡ assignKind → TakesAssign w t last row l s whole
+module _ {w : Setting} {t : Compiled} {span : Span} {row : ℕ} {l : List Label} {s : State} {whole : Result Pause State} where
+  pub takes-assign : Runs w t span row l s whole → kindAt t row ≡ assignKind → TakesAssign w t span row l s whole
   takes-assign (ends e a q) z = absurd (omega (arith, entry 0 (a .holds)))
-  takes-assign (assigns depth at x v k a e f) z =
+  takes-assign (assigns depth at x v k a i e f) z =
       record { depth = depth; at = at; x = x; v = v; k = k; stands = a; means = e; then = f }
-  takes-assign (guards depth at g other k a e f) z = absurd (omega (arith, entry 0 (a .holds)))
+  takes-assign (guards depth at g other k a i e f) z = absurd (omega (arith, entry 0 (a .holds)))
   takes-assign (jumps target a f) z = absurd (omega (arith, entry 0 (a .holds)))
 
-  pub takes-guard : Runs w t last row l s whole → kindAt t row ≡ guardKind → TakesGuard w t last row l s whole
+  pub takes-guard : Runs w t span row l s whole → kindAt t row ≡ guardKind → TakesGuard w t span row l s whole
   takes-guard (ends e a q) z = absurd (omega (arith, entry 0 (a .holds)))
-  takes-guard (assigns depth at x v k a e f) z = absurd (omega (arith, entry 0 (a .holds)))
-  takes-guard (guards depth at g other k a e f) z =
+  takes-guard (assigns depth at x v k a i e f) z = absurd (omega (arith, entry 0 (a .holds)))
+  takes-guard (guards depth at g other k a i e f) z =
       record { depth = depth; at = at; g = g; other = other; k = k; stands = a; means = e; then = f }
   takes-guard (jumps target a f) z = absurd (omega (arith, entry 0 (a .holds)))
 
-  pub takes-jump : Runs w t last row l s whole → kindAt t row ≡ jumpKind → TakesJump w t last row l s whole
+  pub takes-jump : Runs w t span row l s whole → kindAt t row ≡ jumpKind → TakesJump w t span row l s whole
   takes-jump (ends e a q) z = absurd (omega (arith, entry 0 (a .holds)))
-  takes-jump (assigns depth at x v k a e f) z = absurd (omega (arith, entry 0 (a .holds)))
-  takes-jump (guards depth at g other k a e f) z = absurd (omega (arith, entry 0 (a .holds)))
+  takes-jump (assigns depth at x v k a i e f) z = absurd (omega (arith, entry 0 (a .holds)))
+  takes-jump (guards depth at g other k a i e f) z = absurd (omega (arith, entry 0 (a .holds)))
   takes-jump (jumps target a f) z = record { target = target; stands = a; then = f }
 
   -- the block's end
-  pub run-ends : Runs w t last row l s whole → kindAt t row ≡ endKind → (row ≡ last) × (whole ≡ ok s)
+  pub run-ends : Runs w t span row l s whole → kindAt t row ≡ endKind → (row ≡ span .last) × (whole ≡ ok s)
   run-ends (ends e a q) z = (e, q)
-  run-ends (assigns depth at x v k a e f) z = absurd (omega (arith, entry 0 (a .holds)))
-  run-ends (guards depth at g other k a e f) z = absurd (omega (arith, entry 0 (a .holds)))
+  run-ends (assigns depth at x v k a i e f) z = absurd (omega (arith, entry 0 (a .holds)))
+  run-ends (guards depth at g other k a i e f) z = absurd (omega (arith, entry 0 (a .holds)))
   run-ends (jumps target a f) z = absurd (omega (arith, entry 0 (a .holds)))
 
   -- a row that is no end and no jump is a step's
-  pub step-due : Runs w t last row l s whole → (kindAt t row ≡ endKind → ⊥) → (kindAt t row ≡ jumpKind → ⊥)
+  pub step-due : Runs w t span row l s whole → (kindAt t row ≡ endKind → ⊥) → (kindAt t row ≡ jumpKind → ⊥)
       → (kindAt t row ≡ assignKind) ⊎ (kindAt t row ≡ guardKind)
   step-due (ends e a q) y z = absurd (y (entry 0 (a .holds)))
-  step-due (assigns depth at x v k a e f) y z = inl (entry 0 (a .holds))
-  step-due (guards depth at g other k a e f) y z = inr (entry 0 (a .holds))
+  step-due (assigns depth at x v k a i e f) y z = inl (entry 0 (a .holds))
+  step-due (guards depth at g other k a i e f) y z = inr (entry 0 (a .holds))
   step-due (jumps target a f) y z = absurd (z (entry 0 (a .holds)))
 
-  pub run-inside : Runs w t last row l s whole → row < mostRows
+  -- and stands before the block's end
+  pub step-inside : Runs w t span row l s whole → (kindAt t row ≡ assignKind) ⊎ (kindAt t row ≡ guardKind) → InSpan span row
+  step-inside (ends e a q) z = absurd (⊎-elim (λ k. omega (arith, entry 0 (a .holds))) (λ k. omega (arith, entry 0 (a .holds))) z)
+  step-inside (assigns depth at x v k a i e f) z = i
+  step-inside (guards depth at g other k a i e f) z = i
+  step-inside (jumps target a f) z = absurd (⊎-elim (λ k. omega (arith, entry 0 (a .holds))) (λ k. omega (arith, entry 0 (a .holds))) z)
+
+  pub run-inside : Runs w t span row l s whole → row < mostRows
   run-inside (ends e a q) = a .early
-  run-inside (assigns depth at x v k a e f) = a .early
-  run-inside (guards depth at g other k a e f) = a .early
+  run-inside (assigns depth at x v k a i e f) = a .early
+  run-inside (guards depth at g other k a i e f) = a .early
   run-inside (jumps target a f) = a .early
 
 -- Labels: one that is set inside a guard is held

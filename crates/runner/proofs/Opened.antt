@@ -1,11 +1,12 @@
 -- Laws of a whole run: what the checks of its arguments and sheets leave. Assumes nothing.
 use Prim.Native.Nat.{ℕ, _*_, _≤_, _<_}
 use mathlib.Core.Path.{_≡_, refl, sym, ap, _∙_}
-use mathlib.Core.Bool.{true, false, false≢true}
+use mathlib.Core.Bool.{Bool, true, false, false≢true}
 use mathlib.Core.List.{List}
 use native.Mathlib.Omega.{arith}
 use native.Mathlib.Decide.{decLt}
 use lib.ListN.{length, getD}
+use lib.Dec.{leb, eqb}
 use borrow.Author.Tests.{le-leb, lt-leb, eq-eqb, ne-eqb}
 use Rattle.store.specs.declared.Answer.{Answer}
 use Rattle.store.specs.declared.Opened.{Opened}
@@ -18,17 +19,20 @@ use Rattle.store.proofs.Bytes.{formed-more}
 use Rattle.store.proofs.Opening.{Opens, store-opens}
 use Rattle.programme.specs.Sheet.{Block, programmeSheet, checkAnswer}
 use Rattle.programme.specs.Rows.{Compiled}
+use Rattle.programme.specs.Reading.{CompilesTo}
 use Rattle.programme.proofs.Refusals.{programme-refuses}
 use Rattle.calculus.specs.Rules.{RuleSet, rulesOf}
+use Rattle.calculus.specs.Calculus.{limits}
 use Rattle.calculus.specs.Blocks.{mostBudget}
 use Rattle.calculus.proofs.Rules.{rules-refuse}
-use Rattle.calculus.specs.Run.{call, runOpened, runUnder, run}
+use Rattle.calculus.specs.Run.{call, runProgramme, runOpened, runUnder, run}
 use Rattle.runner.specs.declared.rules.Judges.{Judges}
 use Rattle.runner.specs.declared.journal.First.{First}
-use Rattle.runner.specs.Running.{BlocksAt}
+use Rattle.runner.specs.declared.ready.Ready.{Ready}
 use Rattle.runner.specs.Playing.{judgesOf}
 use Rattle.runner.specs.Journal.{Nothing}
-use Rattle.runner.specs.Whole.{OpeningHeld, RunsOpened, CanStart, Finishes, CanFinish, FirstPass}
+use Rattle.runner.specs.Whole.{Roomy, OpeningHeld, Readied, readied, IsReady, Readies, Finishes, CanFinish, FirstPass}
+use Rattle.runner.proofs.Taken.{compiled-stands}
 use Rattle.runner.proofs.Ending.{refused-passes}
 
 -- no slot of an opening store was written
@@ -66,61 +70,6 @@ refused-as : {A : Type 0} (r : Result Answer A) → (checkAnswer r .number ≡ 0
 unfolding checkAnswer unplaced
 refused-as (ok a) h = absurd (h refl)
 refused-as (refuse a) h = refl
-
--- A programme sheet over an opened store: refused by 6 to 10, by 12, or played
-module _ (p : List ℕ) (t : Opened) (j : Judges) (held : List (List ℕ)) (v : Answer) (e : v ≡ checkAnswer (programmeSheet (t .table .n) (t .slots) p)) where
-  module _ (o : Opening) (h : OpeningHeld o t held) where
-    abbrev sheet : Result Answer (List Block)
-    sheet = programmeSheet (o .tables .order .n) (o .tables .slots) p
-
-    slots : t .slots ≡ o .tables .slots
-    unfolding openedOf
-    slots = ap (λ (z : Opened). z .slots) (h .opened)
-
-    same-sheet : v ≡ checkAnswer sheet
-    unfolding openedOf
-    same-sheet = rw (h .opened) at e
-
-    taken : v .number ≡ 0 → Taken sheet
-    taken z = taken-in sheet (programme-refuses _ _ p) (rw same-sheet at z)
-
-  -- the blocks stand in the tables, whatever opening is behind
-  abbrev Standing : Compiled → Type 0
-  Standing tables =
-      (o : Opening) (bs : List Block) → OpeningHeld o t held → programmeSheet (o .tables .order .n) (o .tables .slots) p ≡ ok bs → BlocksAt tables 0 0 bs
-
-  pub opened-can : v .number ≡ 0 → (tables : Compiled) → Standing tables → CanStart t j held → CanFinish t j p tables held
-  opened-can z tables stand c =
-      let b = taken (c .opening) (c .opening-held) z in
-      record { start = c; blocks = b .value; taken = record { sheet = b .same; stand = stand (c .opening) (b .value) (c .opening-held) (b .same) } }
-
-  module _ (budget entries : ℕ) (tables : Compiled) (old : List ℕ) (r : First) where
-    pub opened-refused : (v .number ≡ 0 → ⊥) → Nothing v r → RunsOpened t j budget entries p tables held old old r
-    unfolding runOpened _>>=_
-    opened-refused z n rules o store rule h d =
-        let q : sheet o h ≡ refuse v = refused-as (sheet o h) (rw (same-sheet o h) at z) ∙ ap (λ (a : Answer). refuse a) (sym (same-sheet o h)) in
-        refused-passes _ entries p tables held old v r (rw q) n
-
-    pub opened-room : v .number ≡ 0 → (length old ≡ slotWidth * t .slots → ⊥) → (a : Answer) → a ≡ unplaced 12 → Nothing a r
-        → RunsOpened t j budget entries p tables held old old r
-    unfolding runOpened require _>>=_
-    opened-room z x a q n rules o store rule h d =
-        let b = taken o h z in
-        refused-passes _ entries p tables held old a r (rw (q, b .same, ne-eqb (length old) (slotWidth * o .tables .slots) (rw (slots o h) at x))) n
-
-    pub opened-done : v .number ≡ 0 → Standing tables → (out : List ℕ) → length old ≡ slotWidth * t .slots
-        → Finishes t j budget entries p tables held old out r → RunsOpened t j budget entries p tables held old out r
-    unfolding runOpened require _>>=_
-    opened-done z stand out x f rules o store rule h d =
-        let b = taken o h z in
-        let room : length old ≡ slotWidth * o .tables .slots = rw (slots o h) at x in
-        rw (b .same, eq-eqb (length old) (slotWidth * o .tables .slots) room)
-        (f rules o (b .value) h d (record { sheet = b .same; stand = stand o (b .value) h (b .same) }) room)
-
--- an opened store has no more slots than its rows
-pub slots-few : (t : Opened) (j : Judges) (held : List (List ℕ)) → CanStart t j held → t .slots ≤ mostSlots
-unfolding openedOf
-slots-few t j held c = omega (arith, c .opening-held .small, ap (λ (z : Opened). z .slots) (c .opening-held .opened))
 
 -- The arguments and the store sheet
 
@@ -162,40 +111,153 @@ store-taken s n e z = go (storeSheet s) refl (store-opens s)
     go (ok o) q x = record { opening = o; same = q }
     go (refuse d) q x = absurd (omega (arith, rw q at e))
 
--- The same over what the calls of a first pass answered
-module _ (store p : List ℕ) (rule budget entries : ℕ) (tables : Compiled) (old : List ℕ) (j : Judges) (e : j ≡ judgesOf (rulesOf rule)) where
-  abbrev Whole : List (List ℕ) → First → List ℕ → Type 0
-  Whole held r out = FirstPass (call store p rule budget (length old) entries) old out tables held r
+-- What every run begins with
 
-  pub whole-rule : (held : List (List ℕ)) (a : Answer) (r : First) → a ≡ unplaced 11 → Nothing a r → j .known ≡ false → Whole held r old
-  unfolding run refusedAs _>>=_
-  whole-rule held a r q n h = refused-passes _ entries p tables held old a r (rw (q, rules-unknown rule j e h)) n
+-- whatever comes after it
+pub readied-then : {A : Type 0} (store p : List ℕ) (rule budget : ℕ) (k : RuleSet → Opening → List Block → Result Answer A)
+    → (refusedAs unplaced (rulesOf rule) >>= λ rules. require (leb budget mostBudget) (unplaced 11) (
+    refusedAs unplaced (storeSheet store) >>= λ o. programmeSheet (o .tables .order .n) (o .tables .slots) p >>= λ bs. k rules o bs))
+    ≡ (readied store p rule budget >>= λ x. k (x .rules) (x .opening) (x .blocks))
+unfolding readied refusedAs require _>>=_
+readied-then store p rule budget k = by-rule (rulesOf rule)
+  where
+    by-blocks : (rules : RuleSet) (o : Opening) (r : Result Answer (List Block))
+        → (r >>= λ bs. k rules o bs) ≡ ((r >>= λ bs. ok (record { rules = rules; opening = o; blocks = bs })) >>= λ (x : Readied). k (x .rules) (x .opening) (x .blocks))
+    by-blocks rules o (ok bs) = refl
+    by-blocks rules o (refuse a) = refl
+
+    by-store : (rules : RuleSet) (r : Result ℕ Opening)
+        → (refusedAs unplaced r >>= λ o. programmeSheet (o .tables .order .n) (o .tables .slots) p >>= λ bs. k rules o bs)
+        ≡ ((refusedAs unplaced r >>= λ o. programmeSheet (o .tables .order .n) (o .tables .slots) p >>= λ bs. ok (record { rules = rules; opening = o; blocks = bs }))
+        >>= λ (x : Readied). k (x .rules) (x .opening) (x .blocks))
+    by-store rules (ok o) = by-blocks rules o (programmeSheet (o .tables .order .n) (o .tables .slots) p)
+    by-store rules (refuse e) = refl
+
+    by-budget : (rules : RuleSet) (b : Bool)
+        → require b (unplaced 11) (refusedAs unplaced (storeSheet store) >>= λ o. programmeSheet (o .tables .order .n) (o .tables .slots) p >>= λ bs. k rules o bs)
+        ≡ (require b (unplaced 11) (refusedAs unplaced (storeSheet store) >>= λ o. programmeSheet (o .tables .order .n) (o .tables .slots) p >>= λ bs.
+        ok (record { rules = rules; opening = o; blocks = bs })) >>= λ (x : Readied). k (x .rules) (x .opening) (x .blocks))
+    by-budget rules true = by-store rules (storeSheet store)
+    by-budget rules false = refl
+
+    by-rule : (r : Result ℕ RuleSet)
+        → (refusedAs unplaced r >>= λ rules. require (leb budget mostBudget) (unplaced 11) (
+        refusedAs unplaced (storeSheet store) >>= λ o. programmeSheet (o .tables .order .n) (o .tables .slots) p >>= λ bs. k rules o bs))
+        ≡ ((refusedAs unplaced r >>= λ rules. require (leb budget mostBudget) (unplaced 11) (
+        refusedAs unplaced (storeSheet store) >>= λ o. programmeSheet (o .tables .order .n) (o .tables .slots) p >>= λ bs.
+        ok (record { rules = rules; opening = o; blocks = bs }))) >>= λ (x : Readied). k (x .rules) (x .opening) (x .blocks))
+    by-rule (ok rules) = by-budget rules (leb budget mostBudget)
+    by-rule (refuse e) = refl
+
+-- its answers, one for each of its ends
+module _ (store p : List ℕ) (rule budget : ℕ) (t : Compiled) (held : List (List ℕ)) (j : Judges) (e : j ≡ judgesOf (rulesOf rule)) where
+  refused-by : (r : Ready) (n : ℕ) → r .answer ≡ unplaced n → (n ≡ 0 → ⊥) → readied store p rule budget ≡ refuse (unplaced n) → Readies store p rule budget t held r
+  unfolding unplaced
+  refused-by r n a z q =
+      record { ready = λ y. absurd (z (ap (λ (x : Answer). x .number) (sym a) ∙ y)); refused = λ _. q ∙ ap (λ (x : Answer). refuse x) (sym a) }
+
+  pub ready-rule : (a : Answer) (r : Ready) → a ≡ unplaced 11 → r .answer ≡ a → j .known ≡ false → Readies store p rule budget t held r
+  unfolding readied refusedAs _>>=_
+  ready-rule a r q n h = refused-by r 11 (n ∙ q) (λ z. omega arith) (rw (rules-unknown rule j e h))
 
   module _ (known : j .known ≡ true) where
     k : Known rule j
     k = rules-known rule j e known
 
-    pub whole-budget : (held : List (List ℕ)) (a : Answer) (r : First) → a ≡ unplaced 11 → Nothing a r → mostBudget < budget → Whole held r old
-    unfolding runUnder run refusedAs require _>>=_
-    whole-budget held a r q n h = refused-passes _ entries p tables held old a r (rw (q, k .same, lt-leb budget mostBudget h)) n
+    pub ready-budget : (a : Answer) (r : Ready) → a ≡ unplaced 11 → r .answer ≡ a → mostBudget < budget → Readies store p rule budget t held r
+    unfolding readied refusedAs require _>>=_
+    ready-budget a r q n h = refused-by r 11 (n ∙ q) (λ z. omega arith) (rw (k .same, lt-leb budget mostBudget h))
 
-    module _ (h : budget ≤ mostBudget) (t : Opened) (opened : t ≡ openedOf (storeSheet store)) where
-      pub whole-store : (held : List (List ℕ)) (a : Answer) (r : First) → a ≡ unplaced (t .refusal) → Nothing a r → (t .refusal ≡ 0 → ⊥) → Whole held r old
-      unfolding runUnder run refusedAs require _>>=_
-      whole-store held a r q n z =
-          refused-passes _ entries p tables held old a r
-          (rw (q, k .same, le-leb budget mostBudget h, store-no (storeSheet store) (t .refusal) (ap (λ (x : Opened). x .refusal) opened) z)) n
+    module _ (h : budget ≤ mostBudget) (x : Opened) (opened : x ≡ openedOf (storeSheet store)) where
+      pub ready-store : (a : Answer) (r : Ready) → a ≡ unplaced (x .refusal) → r .answer ≡ a → (x .refusal ≡ 0 → ⊥) → Readies store p rule budget t held r
+      unfolding readied refusedAs require _>>=_
+      ready-store a r q n z =
+          refused-by r (x .refusal) (n ∙ q) z
+          (rw (k .same, le-leb budget mostBudget h, store-no (storeSheet store) (x .refusal) (ap (λ (y : Opened). y .refusal) opened) z))
 
-      module _ (z : t .refusal ≡ 0) (before held : List (List ℕ)) (after : held ≡ heldAfter (storeSheet store) before) where
+      module _ (z : x .refusal ≡ 0) (before : List (List ℕ)) (after : held ≡ heldAfter (storeSheet store) before) where
         s : StoreTaken (storeSheet store)
-        s = store-taken store (t .refusal) (ap (λ (x : Opened). x .refusal) opened) z
+        s = store-taken store (x .refusal) (ap (λ (y : Opened). y .refusal) opened) z
 
-        opening : OpeningHeld (s .opening) t held
-        opening = opening-held store (s .opening) t before held (s .same) opened after
+        opening : OpeningHeld (s .opening) x held
+        opening = opening-held store (s .opening) x before held (s .same) opened after
 
-        pub whole-start : CanStart t j held
-        whole-start = record { rules = k .rules; opening = s .opening; opening-held = opening; judges = k .judges }
+        readied-ok : (bs : List Block) → programmeSheet (s .opening .tables .order .n) (s .opening .tables .slots) p ≡ ok bs
+            → readied store p rule budget ≡ ok (record { rules = k .rules; opening = s .opening; blocks = bs })
+        unfolding readied refusedAs require _>>=_
+        readied-ok bs q = rw (k .same, le-leb budget mostBudget h, s .same, q)
 
-        pub whole-done : (r : First) (out : List ℕ) → RunsOpened t j budget entries p tables held old out r → Whole held r out
-        unfolding runUnder run refusedAs require _>>=_
-        whole-done r out f = rw (k .same, le-leb budget mostBudget h, s .same) (f (k .rules) (s .opening) store rule opening (k .judges))
+        pub ready-done : (v : Answer) (old : Compiled) → CompilesTo p (programmeSheet (x .table .n) (x .slots) p) old t v → Roomy old
+            → Readies store p rule budget t held (record { answer = v; opened = x; judges = j })
+        unfolding readied refusedAs require _>>=_ openedOf
+        ready-done v old c room =
+            let o = s .opening in
+            let same : v ≡ checkAnswer (programmeSheet (o .tables .order .n) (o .tables .slots) p) = rw (opening .opened) at (c .0) in
+            record {
+              ready = λ y.
+                  let b = taken-in (programmeSheet (o .tables .order .n) (o .tables .slots) p) (programme-refuses _ _ p) (rw same at y) in (
+                    record { rules = k .rules; opening = o; blocks = b .value },
+                    readied-ok (b .value) (b .same),
+                    record {
+                      opening-held = opening;
+                      judges = k .judges;
+                      taken = record { sheet = b .same; stand = compiled-stands x held p old t room (c .1) o (b .value) opening (b .same) };
+                    },
+                  );
+              refused = λ y.
+                  rw (k .same, le-leb budget mostBudget h, s .same, refused-as (programmeSheet (o .tables .order .n) (o .tables .slots) p) (rw same at y), ← same);
+            }
+
+-- A run, from there on
+
+abbrev canFinish : {x : Readied} {p : List ℕ} {t : Compiled} {held : List (List ℕ)} {r : Ready} → IsReady x p t held r → CanFinish (r .opened) (r .judges) p t held
+canFinish {x} i =
+    record {
+      start = record { rules = x .rules; opening = x .opening; opening-held = i .opening-held; judges = i .judges };
+      blocks = x .blocks;
+      taken = i .taken;
+    }
+
+module _ (store p : List ℕ) (rule budget : ℕ) (t : Compiled) (held : List (List ℕ)) (r : Ready) (h : Readies store p rule budget t held r) where
+  -- an opened store has no more slots than its rows
+  pub slots-few : r .answer .number ≡ 0 → r .opened .slots ≤ mostSlots
+  unfolding openedOf
+  slots-few z = let i = h .ready z .2 in omega (arith, i .opening-held .small, ap (λ (y : Opened). y .slots) (i .opening-held .opened))
+
+  pub can-finish : r .answer .number ≡ 0 → CanFinish (r .opened) (r .judges) p t held
+  can-finish z = canFinish (h .ready z .2)
+
+  module _ (entries : ℕ) (old : List ℕ) (f : First) where
+    abbrev Whole : List ℕ → Type 0
+    Whole out = FirstPass (call store p rule budget (length old) entries) old out t held f
+
+    run-readied : run (call store p rule budget (length old) entries)
+        ≡ (readied store p rule budget >>= λ x. require (eqb (length old) (slotWidth * x .opening .tables .slots)) (unplaced 12) (
+        runProgramme (x .rules) (limits budget entries) (x .opening) (x .blocks)))
+    unfolding run runUnder runOpened
+    run-readied = readied-then store p rule budget _
+
+    pub whole-refused : (r .answer .number ≡ 0 → ⊥) → Nothing (r .answer) f → Whole old
+    unfolding _>>=_
+    whole-refused z n = refused-passes _ entries p t held old (r .answer) f (run-readied ∙ rw (h .refused z)) n
+
+    module _ (z : r .answer .number ≡ 0) where
+      abbrev x : Readied
+      x = h .ready z .0
+
+      slots : r .opened .slots ≡ x .opening .tables .slots
+      unfolding openedOf
+      slots = ap (λ (y : Opened). y .slots) (h .ready z .2 .opening-held .opened)
+
+      pub whole-room : (length old ≡ slotWidth * r .opened .slots → ⊥) → (a : Answer) → a ≡ unplaced 12 → Nothing a f → Whole old
+      unfolding require _>>=_
+      whole-room y a q n =
+          refused-passes _ entries p t held old a f (run-readied ∙ rw (h .ready z .1, q, ne-eqb (length old) (slotWidth * x .opening .tables .slots) (rw slots at y))) n
+
+      pub whole-done : (out : List ℕ) → length old ≡ slotWidth * r .opened .slots → Finishes (r .opened) (r .judges) budget entries p t held old out f → Whole out
+      unfolding require _>>=_
+      whole-done out y g =
+          let i = h .ready z .2 in
+          let room : length old ≡ slotWidth * x .opening .tables .slots = rw slots at y in
+          rw (run-readied, h .ready z .1, eq-eqb (length old) (slotWidth * x .opening .tables .slots) room)
+          (g (x .rules) (x .opening) (x .blocks) (i .opening-held) (i .judges) (i .taken) room)

@@ -10,46 +10,26 @@ use Rattle.lattice.specs.Order.{mostPrincipals, top}
 use Rattle.lattice.proofs.Order.{good-at}
 use Rattle.store.specs.declared.Entry.{Entry}
 use Rattle.store.specs.Result.{Result, ok, refuse, _>>=_, refusedAs}
-use Rattle.store.proofs.Result.{Post, Any, post-ok, post-self, post-map, post-both, post-bind, post-at, one-value, not-both}
+use Rattle.store.proofs.Result.{post-at, one-value, not-both}
 use Rattle.programme.specs.declared.Header.{Header}
-use Rattle.programme.specs.Rows.{Compiled, size, cmdOperands}
+use Rattle.programme.specs.Rows.{cmdOperands}
 use Rattle.programme.specs.Sheet.{Block, kOf, headerAt}
-use Rattle.calculus.specs.Calculus.{Setting, State, Stop, step, recorded, counted, performed}
+use Rattle.calculus.specs.Calculus.{Setting, State}
 use Rattle.calculus.specs.Blocks.{haltIn, runBlocks}
-use Rattle.calculus.proofs.Appends.{Extends, extends-refl, extends-trans, blocks-extend}
-use Rattle.calculus.proofs.Steps.{made}
+use Rattle.calculus.specs.Paths.{Pause, bare}
+use Rattle.calculus.proofs.Appends.{Extends, extends-trans, blocks-extend}
 use Rattle.runner.specs.declared.rules.Terms.{Terms}
 use Rattle.runner.specs.declared.blocks.Place.{Place as From}
-use Rattle.runner.specs.Held.{floorHeld, Serves, DoneAs}
-use Rattle.runner.specs.Running.{Runs, ends, assigns, guards, jumps, BlocksAt}
+use Rattle.runner.specs.Held.{topMask, floorHeld, Serves, DoneAs}
+use Rattle.runner.specs.Running.{Span, BlocksAt, spanOf}
 use Rattle.runner.specs.Machine.{Given, given, Place, place, GoesOn, Allows, Full, Halts, CanGo}
-use Rattle.runner.specs.Playing.{Served, Under, HeadersAt, LeftToPlay}
-use Rattle.runner.specs.Journal.{Replayed, playedBy, Finishing, settingIn, Inside, CanTell, CanMake, Makes}
+use Rattle.runner.specs.Playing.{Served, Under, HeadersAt, CanTell, LeftToPlay}
+use Rattle.runner.specs.Journal.{Replayed, playedBy, Finishing, settingIn, Inside, CanMake, Makes}
 use Rattle.runner.proofs.Serving.{serves-under}
 use Rattle.runner.proofs.Moving.{step-refused, attempt-full, assign-ends, takes-assign}
 use Rattle.runner.proofs.Going.{paused-stops}
+use Rattle.runner.proofs.Extending.{runs-extend}
 use Rattle.runner.proofs.Playing.{everywhere, block-goes, left-next, headers, stand, unrolled}
-
--- Runs only append to the journal, and stay within the budget
-
-module _ (w : Setting) (t : Compiled) (last : ℕ) where
-  made-self : {A : Type 0} (at : ℕ) (s : State) (r : Result ℕ A) → s .steps ≤ w .limits .budget
-      → Post (λ a. (step w at s r ≡ ok a) × (s .steps < w .limits .budget)) Any (step w at s r)
-  made-self at s r h =
-      post-map _ _ _ _ _ (post-both _ _ _ _ _ (post-self (step w at s r)) (made w (s .steps) at s r (record { grown = omega arith; kept = h })))
-      (λ a q. q) (λ _ _. tt)
-
-  pub runs-extend : {r : ℕ} {l : List ℕ} {s : State} {whole : Result Stop State} → Runs w t last r l s whole → s .steps ≤ w .limits .budget
-      → Post (λ u. Extends (s .journal) (u .journal) × (u .steps ≤ w .limits .budget)) Any whole
-  unfolding performed recorded counted
-  runs-extend {s = s} (ends e a q) h = rw q (post-ok _ _ _ (extends-refl (s .journal), h))
-  runs-extend {s = s} (assigns depth at x v k a e f) h =
-      rw e (post-bind _ _ _ _ _ (made-self at s _ h) λ y q.
-      post-map _ _ _ _ _ (runs-extend (f y (q .0)) (omega (arith, q .1)))
-      (λ u z. (extends-trans (s .journal) _ (u .journal) (record { more = _; is = refl }) (z .0), z .1)) (λ _ _. tt))
-  runs-extend {s = s} (guards depth at g other k a e f) h =
-      rw e (post-bind _ _ _ _ _ (made-self at s _ h) λ j q. runs-extend (f j (q .0)) (omega (arith, q .1)))
-  runs-extend (jumps target a f) h = runs-extend f h
 
 -- Lists
 
@@ -69,10 +49,10 @@ no-more : (j xs : List Entry) (x : Entry) → j ≡ j ++ (x ∷ xs) → ⊥
 no-more j xs x e = omega (arith, length-append j (x ∷ xs), ap length e)
 
 -- what a run of blocks comes to, from one that finishes
-module _ (g : Replayed) (f : Finishing g) (block : ℕ) (inner : Result Stop State) (rest : List Block)
-    (means : (refusedAs (haltIn block) inner >>= λ t. runBlocks (f .tables) (f .rules) (f .limits) (block + 1) rest t) ≡ ok (f .end)) where
+module _ (g : Replayed) (f : Finishing g) (block : ℕ) (inner : Result Pause State) (rest : List Block)
+    (means : (refusedAs (haltIn block) (bare inner) >>= λ t. runBlocks (f .tables) (f .rules) (f .limits) (block + 1) rest t) ≡ ok (f .end)) where
   -- the block is not stopped
-  inner-runs : (e : Stop) → inner ≡ refuse e → ⊥
+  inner-runs : (e : Pause) → inner ≡ refuse e → ⊥
   unfolding refusedAs _>>=_
   inner-runs e q = not-both _ _ _ (rw q at means) refl
 
@@ -85,7 +65,7 @@ module _ (g : Replayed) (f : Finishing g) (block : ℕ) (inner : Result Stop Sta
   unfolding refusedAs _>>=_
   inner-done = go inner refl
     where
-      go : (r : Result Stop State) → inner ≡ r → Done
+      go : (r : Result Pause State) → inner ≡ r → Done
       go (ok t) e = record { state = t; is = e; then = rw e at means }
       go (refuse e) q = absurd (inner-runs e q)
 
@@ -110,7 +90,7 @@ module _ (g : Replayed) (f : Finishing g) where
       }
 
   abbrev pub full : ℕ
-  full = 2 ^ min mostPrincipals (g .first .table .n) - 1
+  full = topMask (g .first .table .n)
 
   -- terms that serve a block, whatever it is
   abbrev some-terms : Header → Terms
@@ -153,14 +133,14 @@ module _ (g : Replayed) (f : Finishing g) where
           header = h;
           heads = hs .0;
           region = hs .1;
-          last = from .row + size (n .block .command);
+          span = spanOf (n .block .command) (from .row);
           early = st .0 .fits;
           room = length (l .state .journal);
           inner = _;
           goes =
-              block-goes (playedBy g) h (from .row) (from .steps) 0 held (some-terms h) (serve h) (settingIn f (from .block) h)
-              (record { under = is-under (from .block) h (hs .1); budget = f .budget }) (length (l .state .journal)) (l .state)
-              (record { store = l .store-held; steps = l .steps; counts = l .counts; entries = omega arith }) (l .kept) (l .operand) (n .block .command) (st .0);
+              block-goes (settingIn f (from .block) h) (g .tables) (from .row) (from .steps) 0 (length (l .state .journal)) full held
+              (serve h (settingIn f (from .block) h) (is-under (from .block) h (hs .1)) .top) (l .state)
+              (record { store = l .store-held; steps = l .steps; counts = l .counts; entries = omega arith }) (omega (arith, l .kept, f .budget)) (l .operand) (n .block .command) (st .0);
           fits = omega (arith, l .entries);
           within = l .kept;
           rest = n .rest;
@@ -191,11 +171,11 @@ module _ {g : Replayed} {f : Finishing g} {labels : List ℕ} {store : List (Lis
       }
 
   -- the end's journal goes on from whatever the block comes to
-  module _ {last room : ℕ} {p : Place} (o : GoesOn w (g .tables) last room p (i .inner)) (h : o .state .steps ≤ w .limits .budget) where
+  module _ {span : Span} {room : ℕ} {p : Place} (o : GoesOn w (g .tables) span room p (i .inner)) (h : o .state .steps ≤ w .limits .budget) where
     end-extends : Extends (o .state .journal) (f .end .journal)
     end-extends =
         let d = inner-done g f block (i .inner) (i .rest) (i .means) in
-        extends-trans (o .state .journal) (d .state .journal) (f .end .journal) (post-at _ _ _ _ (runs-extend w (g .tables) last (o .runs) h) (d .is) .0)
+        extends-trans (o .state .journal) (d .state .journal) (f .end .journal) (post-at _ _ _ _ (runs-extend w (g .tables) span (o .runs) h) (d .is) .0)
         (done-extends g f block (i .inner) (i .rest) (i .means))
 
     -- where no entry was filled on the way, the same are left
@@ -222,7 +202,7 @@ module _ {g : Replayed} {f : Finishing g} {labels : List ℕ} {store : List (Lis
           serves = serves;
           room = i .room;
           enough = allows (i .room) (i .fits);
-          last = i .last;
+          span = i .span;
           whole = i .inner;
           goes = i .goes;
           within = i .within;
@@ -230,12 +210,12 @@ module _ {g : Replayed} {f : Finishing g} {labels : List ℕ} {store : List (Lis
 
     module _ (labels′ : List ℕ) (store′ : List (List ℕ)) where
       -- the block's end: the next one is left to play
-      module _ (row′ steps′ free′ : ℕ) (e : row′ ≡ i .last) (d : DoneAs w (i .room) store′ steps′ free′ (i .inner)) where
+      module _ (row′ steps′ free′ : ℕ) (e : row′ ≡ i .span .last) (d : DoneAs w (i .room) store′ steps′ free′ (i .inner)) where
         abbrev pub after : From
         after = record { block = block + 1; row = row′ + 1; steps = steps′; free = f .limits .entries - i .room }
 
         filled : Extends (i .goes .state .journal) (d .state .journal) × (d .state .steps ≤ w .limits .budget)
-        filled = post-at _ _ _ _ (runs-extend w (g .tables) (i .last) (i .goes .runs) within-budget) (d .means)
+        filled = post-at _ _ _ _ (runs-extend w (g .tables) (i .span) (i .goes .runs) within-budget) (d .means)
 
         pub done-left : (l : LeftToPlay (f .tables) (f .rules) (f .limits) (playedBy g) (g .sheet) (kOf (g .sheet)) after store′ (ok (f .end)))
             × (f .end .journal ≡ l .state .journal ++ js)
@@ -266,17 +246,17 @@ module _ {g : Replayed} {f : Finishing g} {labels : List ℕ} {store : List (Lis
             )
 
       -- an assignment, for which no entry is free
-      module _ (number row′ steps′ free′ : ℕ) (h : Halts w by (i .last) (i .room) number (place row′ steps′ free′ labels′ store′) (i .inner)) where
+      module _ (number row′ steps′ free′ : ℕ) (h : Halts w by (i .span) (i .room) number (place row′ steps′ free′ labels′ store′) (i .inner)) where
         abbrev pub here : Place
         here = place row′ steps′ 0 labels′ store′
 
-        pub there : Full w by (i .last) (i .room) here (i .inner)
+        pub there : Full w by (i .span) (i .room) here (i .inner)
         there = go (ℕ-discrete number 17) (ℕ-discrete number 18)
           where
-            go : Dec (number ≡ 17) → Dec (number ≡ 18) → Full w by (i .last) (i .room) here (i .inner)
+            go : Dec (number ≡ 17) → Dec (number ≡ 18) → Full w by (i .span) (i .room) here (i .inner)
             go (yes q) d =
                 absurd (inner-runs g f block (i .inner) (i .rest) (i .means) _
-                (paused-stops w by (i .last) (i .room) (place row′ steps′ free′ labels′ store′) (i .inner) (f .budget) (h .paused q) .means))
+                (paused-stops w by (i .span) (i .room) (place row′ steps′ free′ labels′ store′) (i .inner) (f .budget) (h .paused q) .means))
             go (no q) (yes d) = let z = h .full d in rw (z .none) at z
             go (no q) (no d) = absurd (inner-runs g f block (i .inner) (i .rest) (i .means) _ (h .final q d .means))
 
@@ -307,7 +287,7 @@ module _ {g : Replayed} {f : Finishing g} {labels : List ℕ} {store : List (Lis
                           serves = serves;
                           room = i .room;
                           enough = allows (i .room) (i .fits);
-                          last = i .last;
+                          span = i .span;
                           whole = i .inner;
                           goes = there .goes;
                           within = omega (arith, there .left);
@@ -327,7 +307,7 @@ module _ {g : Replayed} {f : Finishing g} {labels : List ℕ} {store : List (Lis
               let o = there .goes in
               let l : length (o .state .journal) ≡ length (i .goes .state .journal) = omega (arith, o .state-held .entries, i .goes .state-held .entries) in
               let h : o .state .steps ≤ w .limits .budget = omega (arith, o .state-held .steps, there .left, f .budget) in
-              let q = m w (i .last) (i .room) (i .inner) (done .state) serves (allows (i .room) (i .fits)) refl o has-room (done .is) in
+              let q = m w (i .span) (i .room) (i .inner) (done .state) serves (allows (i .room) (i .fits)) refl o has-room (done .is) in
               let b = end-extends (q .0) (omega (arith, q .0 .state-held .steps, there .left, f .budget)) in
               let n = next-first (o .state .journal) y z es (b .more) (sym (same-left o h l ∙ ap (λ (k : List Entry). o .state .journal ++ k) e) ∙ b .is
               ∙ ap (λ (k : List Entry). k ++ b .more) (q .1)) in (
@@ -336,7 +316,7 @@ module _ {g : Replayed} {f : Finishing g} {labels : List ℕ} {store : List (Lis
                   header = i .header;
                   heads = i .heads;
                   region = i .region;
-                  last = i .last;
+                  span = i .span;
                   early = i .early;
                   room = length (o .state .journal) + 1;
                   inner = i .inner;

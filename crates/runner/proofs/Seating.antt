@@ -14,8 +14,8 @@ use Rattle.runner.specs.declared.blocks.Place.{Place as From}
 use Rattle.runner.specs.declared.machine.Ran.the-variants as r
 use Rattle.runner.specs.Machine.{Given, given, place, Halts, CanGo, Ends, Went}
 use Rattle.runner.specs.Held.{DoneAs}
-use Rattle.runner.specs.Playing.{Served, openingPlace, LeftToPlay}
-use Rattle.runner.specs.Journal.{Replayed, Seated, seated, playedBy, Inside, Seat, Left, Enters, EntersFirst, CanTell, CanMake, Makes}
+use Rattle.runner.specs.Playing.{CanTell, Served, openingPlace, LeftToPlay}
+use Rattle.runner.specs.Journal.{Replayed, Seated, seated, playedBy, Inside, Seat, Left, Enters, EntersFirst, CanMake, Makes}
 use Rattle.runner.proofs.Moving.{run-inside}
 use Rattle.runner.proofs.Playing.{everywhere}
 use Rattle.runner.proofs.Replaying.{full, enter-some, entered, can-tell, w, serves, allows, go-can, after, done-left, there, make-can, made-next}
@@ -85,11 +85,11 @@ module _ {g : Replayed} {labels : List ℕ} {store : List (List ℕ)} {seat : Li
     module _ (labels′ : List ℕ) (store′ : List (List ℕ)) where
       -- the block ended: the next one is entered
       module _ (last done free : ℕ) (x : Went machine (place (getD seat 1 0) (getD seat 2 0) 0 labels store) labels′ store′ (r.Done last done free)) where
-        ended : (last ≡ s .inside .last) × DoneAs (w (s .inside)) (s .inside .room) store′ done free (s .inside .inner)
+        ended : (last ≡ s .inside .span .last) × DoneAs (w (s .inside)) (s .inside .room) store′ done free (s .inside .inner)
         unfolding Ends
         ended =
             let q = rw (seat-at seat (s .is) .1, seat-at seat (s .is) .2) at x in
-            q .ends (w (s .inside)) (s .inside .last) (s .inside .room) (s .inside .inner) (serves (s .inside) terms serving)
+            q .ends (w (s .inside)) (s .inside .span) (s .inside .room) (s .inside .inner) (serves (s .inside) terms serving)
             (allows (s .inside) terms serving (s .inside .room) (s .inside .fits)) (s .inside .goes)
 
         pub seat-last : last < mostRows
@@ -125,11 +125,11 @@ module _ {g : Replayed} {labels : List ℕ} {store : List (List ℕ)} {seat : Li
 
       -- an assignment came, for which no entry was free: it is made
       module _ (number here at done : ℕ) (x : Went machine (place (getD seat 1 0) (getD seat 2 0) 0 labels store) labels′ store′ (r.Stopped number here at done)) where
-        stopped : (free : ℕ) × Halts (w (s .inside)) machine (s .inside .last) (s .inside .room) number (place here done free labels′ store′) (s .inside .inner)
+        stopped : (free : ℕ) × Halts (w (s .inside)) machine (s .inside .span) (s .inside .room) number (place here done free labels′ store′) (s .inside .inner)
         unfolding Ends
         stopped =
             let q = rw (seat-at seat (s .is) .1, seat-at seat (s .is) .2) at x in
-            q .ends (w (s .inside)) (s .inside .last) (s .inside .room) (s .inside .inner) (serves (s .inside) terms serving)
+            q .ends (w (s .inside)) (s .inside .span) (s .inside .room) (s .inside .inner) (serves (s .inside) terms serving)
             (allows (s .inside) terms serving (s .inside .room) (s .inside .fits)) (s .inside .goes) .1
 
         pub seat-here : here < mostRows

@@ -6,13 +6,13 @@ use native.Mathlib.Omega.{arith}
 use lib.ListN.{getD}
 use borrow.Author.Tests.{ne-eqb}
 use Rattle.lattice.specs.declared.Table.{Table}
-use Rattle.lattice.specs.Order.{mostPrincipals}
+use Rattle.lattice.specs.Order.{mostPrincipals, good, top}
 use Rattle.lattice.proofs.Order.{good-at, top-lt, mask-top}
 use Rattle.programme.specs.declared.Header.{Header}
 use Rattle.calculus.specs.Rules.{rulesOf, judgesViews, judgesRegion}
 use Rattle.calculus.specs.Calculus.{Setting}
 use Rattle.runner.specs.declared.rules.Judges.{Judges}
-use Rattle.runner.specs.Held.{judgesLabels, judgesBranch, floorHeld, Serves}
+use Rattle.runner.specs.Held.{judgesLabels, judgesBranch, LabelHeld, topMask, floorHeld, Serves}
 use Rattle.runner.specs.Playing.{judgesOf, Under}
 
 -- What the rule set of a rule number judges
@@ -53,21 +53,26 @@ pub floor-bare : (e : Bool) (f : ℕ) → e ≡ false → mostPrincipals ≡ flo
 unfolding floorHeld
 floor-bare e f h = rw h refl
 
+-- the top is held as its mask
+pub top-held : (t : Table) → good t ≡ true → LabelHeld t (top t) (topMask (t .n))
+top-held t h =
+    let g = good-at t h in
+    let n : min mostPrincipals (t .n) ≡ t .n = omega (arith, g .few) in
+    record { inside = top-lt t h; same = ap (λ (x : ℕ). 2 ^ x - 1) n ∙ sym (mask-top t h) }
+
 -- a block's terms serve its setting
 pub serves-under : (w : Setting) (t : Table) (j : Judges) (h : Header) (region full floor : ℕ) → Under w t j h
-    → floor ≡ floorHeld (h .endorsed) (h .floor) → region ≡ getD (t .masks) (h .region) 0 → full ≡ 2 ^ min mostPrincipals (t .n) - 1
+    → floor ≡ floorHeld (h .endorsed) (h .floor) → region ≡ getD (t .masks) (h .region) 0 → full ≡ topMask (t .n)
     → Serves w
     (record { views = j .views; regions = j .regions; labels = j .labels; branches = j .branches; floor = floor; region = region; top = full })
     (t .masks)
 unfolding judgesOf
 serves-under w t j h region full floor u f p q =
-    let g = good-at (w .tables .order) (u .grounds .table) in
-    let n : min mostPrincipals (t .n) ≡ w .tables .order .n = omega (arith, g .few, ap (λ (x : Table). x .n) (u .order)) in
     record {
       grounds = u .grounds;
       masks = ap (λ (x : Table). x .masks) (u .order);
       region = record { inside = rw (← u .header, u .order) (u .region); same = rw (← u .header, u .order) p };
-      top = record { inside = top-lt (w .tables .order) (u .grounds .table); same = q ∙ ap (λ (x : ℕ). 2 ^ x - 1) n ∙ sym (mask-top (w .tables .order) (u .grounds .table)) };
+      top = rw (q, ← u .order) (top-held (w .tables .order) (u .grounds .table));
       floor = f ∙ ap (λ (x : Header). floorHeld (x .endorsed) (x .floor)) (u .header);
       views = ap (λ (x : Judges). x .views) (u .judges);
       regions = ap (λ (x : Judges). x .regions) (u .judges);

@@ -14,13 +14,14 @@ use Rattle.store.specs.Held.{rowOf}
 use Rattle.store.specs.Sheet.{Tables, ownerOf, mostSlots}
 use Rattle.programme.specs.Code.{mostDeep}
 use Rattle.programme.specs.Rows.{Compiled, assignKind, guardKind}
-use Rattle.calculus.specs.Calculus.{Setting, Store, State, Stop, Judged, Write, judge, assignment, entryOf, counted, written, recorded, performed}
+use Rattle.calculus.specs.Calculus.{Setting, Store, State, Judged, Write, judge, assignment, entryOf, counted, written, recorded, performed}
+use Rattle.calculus.specs.Paths.{Pause}
 use Rattle.calculus.proofs.Invariant.{set-either}
 use Rattle.runner.specs.declared.steps.Judged.{Judged as Outcome}
 use Rattle.runner.specs.declared.steps.Made.{Made}
 use Rattle.runner.specs.Answers.{Judging, judging, Making, making, Control, control}
 use Rattle.runner.specs.Held.{LabelHeld, Serves, JudgedAs, MadeAs, StateHeld}
-use Rattle.runner.specs.Running.{rowAt, operandTables, next}
+use Rattle.runner.specs.Running.{rowAt, operandTables, next, Span}
 use Rattle.runner.specs.Contracts.{Grounds, grounds, Behind, CanJudge, SomeExpr, JudgesGuard, JudgesAssignment, PutsWrite}
 use Rattle.runner.specs.Machine.{Given, Place, GoesOn, Allows, Moves, Within, Moved, CanGo, CanStep}
 use Rattle.runner.proofs.Rows.{row-at}
@@ -81,7 +82,7 @@ secondAt t r = getD (rowAt t r) 4 0
 abbrev pub groundsAt : Given → Place → Grounds
 groundsAt g p = grounds (g .terms) (g .masks) (p .store)
 
-module _ (g : Given) {w : Setting} {last room : ℕ} {p : Place} {whole : Result Stop State} (h : Serves w (g .terms) (g .masks)) (o : GoesOn w (g .tables) last room p whole) where
+module _ (g : Given) {w : Setting} {span : Span} {room : ℕ} {p : Place} {whole : Result Pause State} (h : Serves w (g .terms) (g .masks)) (o : GoesOn w (g .tables) span room p whole) where
   behind : Behind (groundsAt g p) w (o .state .store)
   behind = record { serves = h; held = o .state-held .store }
 
@@ -126,16 +127,16 @@ module _ {g : Given} {p : Place} {depth target value : ℕ} (c : CanStep assignK
       rw (n .target-is, n .value-is, t .stands .holds) (record { expr = t .x; is = t .stands .target-is }, record { expr = t .v; is = t .stands .value-is })
 
   module _ (m : Made) (a : JudgesAssignment (groundsAt g p) (operandTables (g .tables)) target value (getD (p .labels) depth 0) (making m)) where
-    pub made-as : {w : Setting} {last room : ℕ} {whole : Result Stop State} → Serves w (g .terms) (g .masks) → (o : GoesOn w (g .tables) last room p whole)
-        → (t : TakesAssign w (g .tables) last (p .row) (o .labels) (o .state) whole)
+    pub made-as : {w : Setting} {span : Span} {room : ℕ} {whole : Result Pause State} → Serves w (g .terms) (g .masks) → (o : GoesOn w (g .tables) span room p whole)
+        → (t : TakesAssign w (g .tables) span (p .row) (o .labels) (o .state) whole)
         → MadeAs (w .tables) (making m) (assignment w (getD (o .labels) (t .depth) 0) (o .state .store) (t .x) (t .v))
     made-as {w} h o t =
         let b = rw (n .depth-is, n .target-is, n .value-is, t .stands .holds) at a in
         b w (o .state .store) (t .x) (t .v) (getD (o .labels) (t .depth) 0) (behind g h o) (t .stands .target-is) (t .stands .value-is)
         (o .labels-held .same (t .depth) (t .stands .level))
 
-    pub made : {w : Setting} {last room : ℕ} {whole : Result Stop State} → m .refusal ≡ 0 → Serves w (g .terms) (g .masks) → (o : GoesOn w (g .tables) last room p whole)
-        → (t : TakesAssign w (g .tables) last (p .row) (o .labels) (o .state) whole)
+    pub made : {w : Setting} {span : Span} {room : ℕ} {whole : Result Pause State} → m .refusal ≡ 0 → Serves w (g .terms) (g .masks) → (o : GoesOn w (g .tables) span room p whole)
+        → (t : TakesAssign w (g .tables) span (p .row) (o .labels) (o .state) whole)
         → WasMade (w .tables) m (assignment w (getD (o .labels) (t .depth) 0) (o .state .store) (t .x) (t .v))
     made e h o t = was-made m (rw (making-write m e) at (made-as h o t))
 
@@ -151,9 +152,9 @@ module _ {g : Given} {p : Place} {depth target value : ℕ} (c : CanStep assignK
         rw q (omega (arith, o .state-held .counts (m .slot), o .state-held .steps))
 
     -- the state after it
-    pub assign-held : {w : Setting} {last room free : ℕ} {whole : Result Stop State} {store : List (List ℕ)} (e : m .refusal ≡ 0)
-        → PutsWrite (p .store) store (m .slot) (m .kind) (m .payload) (m .owner) → (h : Serves w (g .terms) (g .masks)) (o : GoesOn w (g .tables) last room p whole)
-        → (t : TakesAssign w (g .tables) last (p .row) (o .labels) (o .state) whole) → (room′ : ℕ) → length (o .state .journal) + 1 + free ≡ room′
+    pub assign-held : {w : Setting} {span : Span} {room free : ℕ} {whole : Result Pause State} {store : List (List ℕ)} (e : m .refusal ≡ 0)
+        → PutsWrite (p .store) store (m .slot) (m .kind) (m .payload) (m .owner) → (h : Serves w (g .terms) (g .masks)) (o : GoesOn w (g .tables) span room p whole)
+        → (t : TakesAssign w (g .tables) span (p .row) (o .labels) (o .state) whole) → (room′ : ℕ) → length (o .state .journal) + 1 + free ≡ room′
         → StateHeld w room′ store (p .steps + 1) free (performed w (t .at) (made e h o t .write) (o .state))
     unfolding performed recorded counted
     assign-held {w} e puts h o t room′ q =
@@ -172,7 +173,7 @@ module _ {g : Given} {p : Place} {depth target value : ℕ} (c : CanStep assignK
       unfolding Moves Within
       assign-on {store} e puts =
           record {
-            same = λ w last room whole h b o.
+            same = λ w span room whole h b o.
                 let t = takes-assign (o .runs) (c .is) in
                 let y = made e h o t in
                 let a = attempt-free w (getD (o .labels) (t .depth) 0) (o .state) (t .x) (t .v) (some-free g h o some b) in
@@ -194,7 +195,7 @@ module _ {g : Given} {p : Place} {depth target value : ℕ} (c : CanStep assignK
       assign-stops e =
           rw (control-stopped (record { refusal = m .refusal; steps = p .steps; row = p .row; free = p .free }) e)
           (record {
-            same = λ w last room whole h b o.
+            same = λ w span room whole h b o.
                 let t = takes-assign (o .runs) (c .is) in
                 let y = made-refused (rw (making-refused m e) at (made-as h o t)) in
                 let q = assign-by-rules w (o .state .store) (getD (o .labels) (t .depth) 0) (t .x) (t .v) y in
@@ -204,6 +205,7 @@ module _ {g : Given} {p : Place} {depth target value : ℕ} (c : CanStep assignK
                   full = λ k. absurd (q .1 k);
                   final = λ _ _.
                       record {
+                        path = span .path (p .row) (o .labels);
                         state = o .state;
                         counted = o .state-held .steps;
                         means = rw (t .stands .holds) (assign-ends t _ (step-refused w (t .at) (o .state) _ (m .refusal) (unspent g h o (c .left) b) (a ∙ y)));
@@ -218,7 +220,7 @@ pub full-stops : {g : Given} {p : Place} → CanStep assignKind g p → p .free 
 unfolding Moves Within
 full-stops {g} {p} c e =
     record {
-      same = λ w last room whole h b o.
+      same = λ w span room whole h b o.
           record {
             paused = λ k. absurd (omega arith);
             full = λ _. record { due = c .is; left = c .left; none = e; goes = o };
@@ -242,8 +244,8 @@ module _ {g : Given} {p : Place} {depth operand : ℕ} (c : CanStep guardKind g 
       rw (n .operand-is, t .stands .holds) (record { expr = t .g; is = t .stands .operand-is })
 
   module _ (v : Outcome) (a : JudgesGuard (groundsAt g p) (operandTables (g .tables)) operand (judging v)) where
-    judged-as : {w : Setting} {last room : ℕ} {whole : Result Stop State} → Serves w (g .terms) (g .masks) → (o : GoesOn w (g .tables) last room p whole)
-        → (t : TakesGuard w (g .tables) last (p .row) (o .labels) (o .state) whole)
+    judged-as : {w : Setting} {span : Span} {room : ℕ} {whole : Result Pause State} → Serves w (g .terms) (g .masks) → (o : GoesOn w (g .tables) span room p whole)
+        → (t : TakesGuard w (g .tables) span (p .row) (o .labels) (o .state) whole)
         → JudgedAs (w .tables .order) (judging v) (judge w (o .state .store) (t .g))
     judged-as {w} h o t =
         let b = rw (n .operand-is, t .stands .holds) at a in
@@ -255,7 +257,7 @@ module _ {g : Given} {p : Place} {depth operand : ℕ} (c : CanStep guardKind g 
     unfolding Moves Within counted
     guard-on b to e q f =
         record {
-          same = λ w last room whole h m o.
+          same = λ w span room whole h m o.
               let t = takes-guard (o .runs) (c .is) in
               let y = was-judged v b e q (judged-as h o t) in
               let s = step-made w (t .at) (o .state) _ (y .judged) (unspent g h o (c .left) m) (y .answer) in
@@ -284,7 +286,7 @@ module _ {g : Given} {p : Place} {depth operand : ℕ} (c : CanStep guardKind g 
     guard-stops e =
         rw (control-stopped (record { refusal = v .refusal; steps = p .steps; row = p .row; free = p .free }) e)
         (record {
-          same = λ w last room whole h b o.
+          same = λ w span room whole h b o.
               let t = takes-guard (o .runs) (c .is) in
               let y = judged-refused (rw (judging-refused v e) at (judged-as h o t)) in
               let q = judge-by-rules w (o .state .store) (t .g) y in
@@ -293,6 +295,7 @@ module _ {g : Given} {p : Place} {depth operand : ℕ} (c : CanStep guardKind g 
                 full = λ k. absurd (q .1 k);
                 final = λ _ _.
                     record {
+                      path = span .path (p .row) (o .labels);
                       state = o .state;
                       counted = o .state-held .steps;
                       means = rw (t .stands .holds) (guard-ends t _ (step-refused w (t .at) (o .state) _ (v .refusal) (unspent g h o (c .left) b) y));

@@ -1,5 +1,5 @@
 -- What the machine's numbers mean in the calculus: labels as masks, slots as rows, answers of its parts. Assumes nothing.
-use Prim.Native.Nat.{ℕ, _+_, _≤_, _<_}
+use Prim.Native.Nat.{ℕ, _+_, _-_, _^_, _≤_, _<_, min}
 use mathlib.Core.Path.{_≡_}
 use mathlib.Core.Bool.{Bool, true, false}
 use mathlib.Core.List.{List}
@@ -11,7 +11,8 @@ use Rattle.store.specs.Value.{wellFormed, emptySlot}
 use Rattle.store.specs.Sheet.{Tables, ownerOf, mostSlots}
 use Rattle.store.specs.Held.{Ordered, heldOf}
 use Rattle.calculus.specs.Rules.{RuleSet, accessControl, capability, explicitProvenance, fullProvenance, judgesViews, judgesRegion}
-use Rattle.calculus.specs.Calculus.{Setting, Store, State, Stop, stopAt, contents, Labelled, Judged, Write}
+use Rattle.calculus.specs.Calculus.{Setting, Store, State, stopAt, contents, Labelled, Judged, Write}
+use Rattle.calculus.specs.Paths.{Open, Pause, pauseAt}
 use Rattle.runner.specs.Answers.{Got, Judging, Making}
 use Rattle.runner.specs.declared.rules.Terms.{Terms}
 
@@ -19,6 +20,10 @@ use Rattle.runner.specs.declared.rules.Terms.{Terms}
 pub record LabelHeld (t : Table) (l : Label) (x : ℕ) : Type 0 where
   pub inside : l < t .n
   pub same : x ≡ mask t l
+
+-- the top's mask, of n principals
+abbrev pub topMask : ℕ → ℕ
+topMask n = 2 ^ min mostPrincipals n - 1
 
 -- whether a rule set judges the labels of target and value, and that of the branch
 unfoldable pub judgesLabels : RuleSet → Bool
@@ -89,13 +94,14 @@ pub record StateHeld (w : Setting) (room : ℕ) (rows : List (List ℕ)) (n free
   pub counts : FewCounts s
   pub entries : length (s .journal) + free ≡ room
 
--- how a block that was stopped, and one that ended, means its result
-pub record StopsAs (number at steps : ℕ) (whole : Result Stop State) : Type 0 where
+-- how a block that was stopped, by whatever path, and one that ended, means its result
+pub record StopsAs (number at steps : ℕ) (whole : Result Pause State) : Type 0 where
+  pub path : List Open
   pub state : State
   pub counted : state .steps ≡ steps
-  pub means : whole ≡ refuse (stopAt at state number)
+  pub means : whole ≡ refuse (pauseAt path (stopAt at state number))
 
-pub record DoneAs (w : Setting) (room : ℕ) (rows : List (List ℕ)) (steps free : ℕ) (whole : Result Stop State) : Type 0 where
+pub record DoneAs (w : Setting) (room : ℕ) (rows : List (List ℕ)) (steps free : ℕ) (whole : Result Pause State) : Type 0 where
   pub state : State
   pub held : StateHeld w room rows steps free state
   pub means : whole ≡ ok state

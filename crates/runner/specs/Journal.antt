@@ -1,10 +1,9 @@
 -- The second pass over a run that finishes, which fills the journal: what it goes by, where it stands, and which writes are left. Assumes nothing.
-use Prim.Native.Nat.{ℕ, _+_, _-_, _^_, _≤_, _<_, min}
+use Prim.Native.Nat.{ℕ, _+_, _-_, _≤_, _<_}
 use mathlib.Core.Path.{_≡_}
 use mathlib.Core.Logic.{_⊎_}
 use mathlib.Core.List.{List, [], _∷_, _++_}
 use lib.ListN.{length, getD, set, drop, replicate}
-use Rattle.lattice.specs.Order.{mostPrincipals}
 use Rattle.store.specs.declared.Answer.{Answer}
 use Rattle.store.specs.declared.Entry.{Entry}
 use Rattle.store.specs.Result.{Result, ok, _>>=_, refusedAs}
@@ -14,11 +13,12 @@ use Rattle.programme.specs.Code.{mostDeep}
 use Rattle.programme.specs.Rows.{Compiled, assignKind, mostRows}
 use Rattle.programme.specs.Sheet.{Block, kOf, codeAt, headerAt}
 use Rattle.calculus.specs.Rules.{RuleSet}
-use Rattle.calculus.specs.Calculus.{Limits, Setting, State, Stop}
+use Rattle.calculus.specs.Calculus.{Limits, Setting, State}
+use Rattle.calculus.specs.Paths.{Pause, bare}
 use Rattle.calculus.specs.Blocks.{haltIn, runBlocks}
 use Rattle.runner.specs.declared.journal.First.{First}
-use Rattle.runner.specs.Held.{Serves}
-use Rattle.runner.specs.Running.{BlocksAt}
+use Rattle.runner.specs.Held.{topMask, Serves}
+use Rattle.runner.specs.Running.{Span, BlocksAt}
 use Rattle.runner.specs.Machine.{Given, Place, place, GoesOn, Allows, CanStep}
 use Rattle.runner.specs.Playing.{Played, played, HeadersAt, AllUnder, openingPlace, LeftToPlay}
 
@@ -78,19 +78,19 @@ pub record Inside (g : Replayed) (f : Finishing g) (labels : List ℕ) (store : 
   pub header : Header
   pub heads : header ≡ headerAt (g .sheet) block
   pub region : header .region < f .tables .order .n
-  pub last : ℕ
-  pub early : last < mostRows
+  pub span : Span
+  pub early : span .last < mostRows
   pub room : ℕ
-  pub inner : Result Stop State
-  pub goes : GoesOn (settingIn f block header) (g .tables) last room (place row steps 0 labels store) inner
+  pub inner : Result Pause State
+  pub goes : GoesOn (settingIn f block header) (g .tables) span room (place row steps 0 labels store) inner
   pub fits : room ≤ f .limits .entries
   pub within : steps ≤ g .first .budget
   pub rest : List Block
   pub count : block + 1 + length rest ≡ kOf (g .sheet)
   pub headers : HeadersAt (f .tables .order .n) (g .sheet) (block + 1) rest
   pub operand : ℕ
-  pub stand : BlocksAt (g .tables) (last + 1) operand rest
-  pub means : (refusedAs (haltIn block) inner >>= λ t. runBlocks (f .tables) (f .rules) (f .limits) (block + 1) rest t) ≡ ok (f .end)
+  pub stand : BlocksAt (g .tables) (span .last + 1) operand rest
+  pub means : (refusedAs (haltIn block) (bare inner) >>= λ t. runBlocks (f .tables) (f .rules) (f .limits) (block + 1) rest t) ≡ ok (f .end)
   pub left : f .end .journal ≡ goes .state .journal ++ js
 
 -- some blocks were entered, and it stands in the last of them
@@ -140,19 +140,13 @@ pub record Filled (g : Replayed) (s : Seated) (xs ys : List Entry) : Type 0 wher
 
 -- a block is entered: its branch label is the top, at every depth to begin with
 pub record Enters (n : ℕ) (labels : List ℕ) (seat seat′ : List ℕ) : Type 0 where
-  pub labels-are : labels ≡ replicate (mostDeep + 1) (2 ^ min mostPrincipals n - 1)
+  pub labels-are : labels ≡ replicate (mostDeep + 1) (topMask n)
   pub seat-is : seat′ ≡ set seat 0 (getD seat 0 0 + 1)
 
 -- where none was entered the first one is
 pub record EntersFirst (n : ℕ) (labels labels′ seat seat′ : List ℕ) : Type 0 where
   pub first : getD seat 0 0 ≡ 0 → Enters n labels′ seat seat′
   pub other : (getD seat 0 0 ≡ 0 → ⊥) → (labels′ ≡ labels) × (seat′ ≡ seat)
-
--- a block's header stands in its sheet, and its region is a principal
-pub record CanTell (sheet : List ℕ) (block : ℕ) : Type 0 where
-  pub sheet-room : codeAt (kOf sheet) ≤ length sheet
-  pub inside : block < kOf sheet
-  pub region : headerAt sheet block .region < mostPrincipals
 
 -- an assignment that is allowed is made, and its entry handed out
 pub record CanMake (g : Given) (p : Place) : Type 0 where
@@ -163,7 +157,7 @@ pub record CanMake (g : Given) (p : Place) : Type 0 where
 
 abbrev pub Makes : Given → Place → ℕ → List (List ℕ) → Entry → Type 0
 Makes g p block store e =
-    (w : Setting) (last room : ℕ) (whole : Result Stop State) (end : State) → Serves w (g .terms) (g .masks) → Allows w g room → w .block ≡ block
-    → (o : GoesOn w (g .tables) last room p whole) → length (o .state .journal) < w .limits .entries → whole ≡ ok end
-    → (q : GoesOn w (g .tables) last (length (o .state .journal) + 1) (place (p .row + 1) (p .steps + 1) 0 (p .labels) store) whole)
+    (w : Setting) (span : Span) (room : ℕ) (whole : Result Pause State) (end : State) → Serves w (g .terms) (g .masks) → Allows w g room → w .block ≡ block
+    → (o : GoesOn w (g .tables) span room p whole) → length (o .state .journal) < w .limits .entries → whole ≡ ok end
+    → (q : GoesOn w (g .tables) span (length (o .state .journal) + 1) (place (p .row + 1) (p .steps + 1) 0 (p .labels) store) whole)
     × (q .state .journal ≡ o .state .journal ++ (e ∷ []))

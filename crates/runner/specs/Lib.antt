@@ -1,5 +1,6 @@
 pub mod Answers
 pub mod Held
+pub mod Tracing
 pub mod Running
 pub mod Evaluating
 pub mod Machine

@@ -11,13 +11,14 @@ use Rattle.lattice.specs.Order.{Label}
 use Rattle.store.specs.Result.{Result}
 use Rattle.programme.specs.Code.{mostDeep}
 use Rattle.programme.specs.Rows.{Compiled, endKind, assignKind, guardKind, jumpKind, mostRows}
-use Rattle.calculus.specs.Calculus.{Setting, State, Stop}
+use Rattle.calculus.specs.Calculus.{Setting, State}
+use Rattle.calculus.specs.Paths.{Pause}
 use Rattle.runner.specs.Answers.{Control}
 use Rattle.runner.specs.declared.rules.Terms.{Terms}
 use Rattle.runner.specs.declared.machine.Ran.{Ran}
 use Rattle.runner.specs.declared.machine.Ran.the-variants as r
 use Rattle.runner.specs.Held.{LabelHeld, Serves, StateHeld, StopsAs, DoneAs}
-use Rattle.runner.specs.Running.{kindAt, offsetAt, Runs}
+use Rattle.runner.specs.Running.{kindAt, offsetAt, Span, Runs}
 
 -- What a run goes by: the terms and the masks, the compiled tables, and the budget
 pub record Given : Type 0 where
@@ -46,13 +47,13 @@ pub record LabelsHeld (t : Table) (l x : List ℕ) : Type 0 where
   pub size : length x ≡ mostDeep + 1
   pub same : (i : ℕ) → i ≤ mostDeep → LabelHeld t (getD l i 0) (getD x i 0)
 
--- from a place on, with a journal of `room` entries, the block that ends at row `last` comes to `whole`
-pub record GoesOn (w : Setting) (t : Compiled) (last room : ℕ) (p : Place) (whole : Result Stop State) : Type 0 where
+-- from a place on, with a journal of `room` entries, the block with these rows comes to `whole`
+pub record GoesOn (w : Setting) (t : Compiled) (span : Span) (room : ℕ) (p : Place) (whole : Result Pause State) : Type 0 where
   pub labels : List Label
   pub state : State
   pub labels-held : LabelsHeld (w .tables .order) labels (p .labels)
   pub state-held : StateHeld w room (p .store) (p .steps) (p .free) state
-  pub runs : Runs w t last (p .row) labels state whole
+  pub runs : Runs w t span (p .row) labels state whole
 
 -- the limits of a setting are the machine's, or larger
 pub record Allows (w : Setting) (g : Given) (room : ℕ) : Type 0 where
@@ -60,28 +61,28 @@ pub record Allows (w : Setting) (g : Given) (room : ℕ) : Type 0 where
   pub entries : room ≤ w .limits .entries
 
 -- The budget is spent before the step at a place: a run with a larger one goes on from there.
-pub record Paused (w : Setting) (g : Given) (last room : ℕ) (p : Place) (whole : Result Stop State) : Type 0 where
+pub record Paused (w : Setting) (g : Given) (span : Span) (room : ℕ) (p : Place) (whole : Result Pause State) : Type 0 where
   pub due : (kindAt (g .tables) (p .row) ≡ assignKind) ⊎ (kindAt (g .tables) (p .row) ≡ guardKind)
   pub spent : p .steps ≡ g .budget
-  pub goes : GoesOn w (g .tables) last room p whole
+  pub goes : GoesOn w (g .tables) span room p whole
 
 -- No entry is free for the assignment at a place: a run with a longer journal goes on from there.
-pub record Full (w : Setting) (g : Given) (last room : ℕ) (p : Place) (whole : Result Stop State) : Type 0 where
+pub record Full (w : Setting) (g : Given) (span : Span) (room : ℕ) (p : Place) (whole : Result Pause State) : Type 0 where
   pub due : kindAt (g .tables) (p .row) ≡ assignKind
   pub left : p .steps < g .budget
   pub none : p .free ≡ 0
-  pub goes : GoesOn w (g .tables) last room p whole
+  pub goes : GoesOn w (g .tables) span room p whole
 
 -- A run was stopped: by 17 or 18, and it is paused there; by another number, and that is its end, within any limits.
-pub record Halts (w : Setting) (g : Given) (last room number : ℕ) (p : Place) (whole : Result Stop State) : Type 0 where
-  pub paused : number ≡ 17 → Paused w g last room p whole
-  pub full : number ≡ 18 → Full w g last room p whole
+pub record Halts (w : Setting) (g : Given) (span : Span) (room number : ℕ) (p : Place) (whole : Result Pause State) : Type 0 where
+  pub paused : number ≡ 17 → Paused w g span room p whole
+  pub full : number ≡ 18 → Full w g span room p whole
   pub final : (number ≡ 17 → ⊥) → (number ≡ 18 → ⊥) → StopsAs number (offsetAt (g .tables) (p .row)) (p .steps) whole
 
 -- what a move means, with these labels and this store after it
-unfoldable pub Moves : Setting → Given → ℕ → ℕ → List ℕ → List (List ℕ) → Control → Result Stop State → Type 0
-Moves w g last room labels store (Control.On row steps free) whole = GoesOn w (g .tables) last room (place row steps free labels store) whole
-Moves w g last room labels store (Control.Stopped number row steps free) whole = Halts w g last room number (place row steps free labels store) whole
+unfoldable pub Moves : Setting → Given → Span → ℕ → List ℕ → List (List ℕ) → Control → Result Pause State → Type 0
+Moves w g span room labels store (Control.On row steps free) whole = GoesOn w (g .tables) span room (place row steps free labels store) whole
+Moves w g span room labels store (Control.Stopped number row steps free) whole = Halts w g span room number (place row steps free labels store) whole
 
 -- how many jumps may come before the next step
 unfoldable pub rank : Compiled → ℕ → ℕ
@@ -99,8 +100,8 @@ Within budget (Control.Stopped number row steps free) = (steps ≤ budget) × (r
 
 -- What a move from a place ensures, for every setting that it serves, the limits being the machine's or larger ones
 pub record Moved (g : Given) (p : Place) (labels : List ℕ) (store : List (List ℕ)) (x : Control) : Type 0 where
-  pub same : (w : Setting) (last room : ℕ) (whole : Result Stop State) → Serves w (g .terms) (g .masks) → Allows w g room
-      → GoesOn w (g .tables) last room p whole → Moves w g last room labels store x whole
+  pub same : (w : Setting) (span : Span) (room : ℕ) (whole : Result Pause State) → Serves w (g .terms) (g .masks) → Allows w g room
+      → GoesOn w (g .tables) span room p whole → Moves w g span room labels store x whole
   pub less : weight g x < weight g (Control.On (p .row) (p .steps) (p .free))
   pub within : Within (g .budget) x
 
@@ -110,9 +111,9 @@ pub record CanGo (g : Given) (p : Place) : Type 0 where
   pub serves : Serves setting (g .terms) (g .masks)
   pub room : ℕ
   pub enough : Allows setting g room
-  pub last : ℕ
-  pub whole : Result Stop State
-  pub goes : GoesOn setting (g .tables) last room p whole
+  pub span : Span
+  pub whole : Result Pause State
+  pub goes : GoesOn setting (g .tables) span room p whole
   pub within : p .steps ≤ g .budget
 
 -- it can take a row: no end row
@@ -132,12 +133,12 @@ pub record CanStep (kind : ℕ) (g : Given) (p : Place) : Type 0 where
   pub left : p .steps < g .budget
 
 -- what a run that ended means: the end of its block, or a stop
-unfoldable pub Ends : Setting → Given → ℕ → ℕ → List ℕ → List (List ℕ) → Ran → Result Stop State → Type 0
-Ends w g last room labels store (r.Done row steps free) whole = (row ≡ last) × DoneAs w room store steps free whole
-Ends w g last room labels store (r.Stopped number row at steps) whole =
-    (at ≡ offsetAt (g .tables) row) × ((free : ℕ) × Halts w g last room number (place row steps free labels store) whole)
+unfoldable pub Ends : Setting → Given → Span → ℕ → List ℕ → List (List ℕ) → Ran → Result Pause State → Type 0
+Ends w g span room labels store (r.Done row steps free) whole = (row ≡ span .last) × DoneAs w room store steps free whole
+Ends w g span room labels store (r.Stopped number row at steps) whole =
+    (at ≡ offsetAt (g .tables) row) × ((free : ℕ) × Halts w g span room number (place row steps free labels store) whole)
 
 -- What a run from a place ensures, within its own limits and within any larger ones: the answer of the whole, or where the whole goes on
 pub record Went (g : Given) (p : Place) (labels : List ℕ) (store : List (List ℕ)) (x : Ran) : Type 0 where
-  pub ends : (w : Setting) (last room : ℕ) (whole : Result Stop State) → Serves w (g .terms) (g .masks) → Allows w g room
-      → GoesOn w (g .tables) last room p whole → Ends w g last room labels store x whole
+  pub ends : (w : Setting) (span : Span) (room : ℕ) (whole : Result Pause State) → Serves w (g .terms) (g .masks) → Allows w g room
+      → GoesOn w (g .tables) span room p whole → Ends w g span room labels store x whole

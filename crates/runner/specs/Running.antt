@@ -1,12 +1,12 @@
 -- What running from a row of the compiled tables comes to. Assumes nothing.
-use Prim.Native.Nat.{ℕ, _+_, _<_, _≤_}
+use Prim.Native.Nat.{ℕ, zero, suc, _+_, _-_, _<_, _≤_}
 use mathlib.Core.Path.{_≡_}
 use mathlib.Core.Bool.{Bool, true, false}
 use mathlib.Core.Logic.{_⊎_}
 use mathlib.Core.List.{List, [], _∷_, _++_}
 use lib.ListN.{length, getD, set}
 use Rattle.lattice.specs.Order.{Label, meet}
-use Rattle.store.specs.Result.{Result, ok, _>>=_}
+use Rattle.store.specs.Result.{Result, ok, _>>=_, refusedAs}
 use Rattle.store.specs.Value.{wellFormed}
 use Rattle.store.specs.Sheet.{mostSlots}
 use Rattle.store.specs.declared.Value.{Value}
@@ -15,7 +15,9 @@ use Rattle.programme.specs.Syntax.{Expr, Cmd, LiteralsOf, Exprs}
 use Rattle.programme.specs.Code.{mostNested, mostDeep}
 use Rattle.programme.specs.Rows.{Compiled, assignRow, guardRow, jumpRow, endRow, guardKind, operandsOf, headsOf, payloadsOf, cmdOperands, rowsOf, size, Nests, Shallow, mostRows, mostOperands}
 use Rattle.programme.specs.Sheet.{Block}
-use Rattle.calculus.specs.Calculus.{Setting, State, Stop, Judged, Write, judge, step, attempt, counted, performed}
+use Rattle.calculus.specs.Calculus.{Setting, State, Judged, Write, judge, step, attempt, counted, performed}
+use Rattle.calculus.specs.Paths.{Open, Pause, pauseAt}
+use Rattle.runner.specs.Tracing.{pathTo}
 
 abbrev pub rowAt : Compiled → ℕ → List ℕ
 rowAt t r = getD (t .rows) r []
@@ -91,22 +93,33 @@ unfoldable pub next : Bool → ℕ → ℕ → ℕ
 next true r other = r + 1
 next false r other = other
 
--- Running on from row r of a block that ends at row `last`, with these branch labels by depth, comes to `whole`.
-module _ (w : Setting) (t : Compiled) (last : ℕ) where
-  pub data Runs : ℕ → List Label → State → Result Stop State → Type 0 where
-    ends : {r : ℕ} {l : List Label} {s : State} {whole : Result Stop State} → r ≡ last → EndAt t r → whole ≡ ok s → Runs r l s whole
-    assigns : {r : ℕ} {l : List Label} {s : State} {whole : Result Stop State} (depth at : ℕ) (x v : Expr) (k : Write → Result Stop State)
-        → AssignAt t r depth at x v
-        → whole ≡ (step w at s (attempt w (getD l depth 0) s x v) >>= k)
+-- a block's rows: its first row and its end row, and the path to the step at each row, with the branch labels by depth there
+pub record Span : Type 0 where
+  pub first : ℕ
+  pub last : ℕ
+  pub path : ℕ → List Label → List Open
+
+-- a row of a block before its end row
+pub record InSpan (span : Span) (r : ℕ) : Type 0 where
+  pub from : span .first ≤ r
+  pub before : r < span .last
+
+-- Running on from row r of a block, with these branch labels by depth, comes to `whole`, in which a stop has the path to its row.
+module _ (w : Setting) (t : Compiled) (span : Span) where
+  pub data Runs : ℕ → List Label → State → Result Pause State → Type 0 where
+    ends : {r : ℕ} {l : List Label} {s : State} {whole : Result Pause State} → r ≡ span .last → EndAt t r → whole ≡ ok s → Runs r l s whole
+    assigns : {r : ℕ} {l : List Label} {s : State} {whole : Result Pause State} (depth at : ℕ) (x v : Expr) (k : Write → Result Pause State)
+        → AssignAt t r depth at x v → InSpan span r
+        → whole ≡ (refusedAs (pauseAt (span .path r l)) (step w at s (attempt w (getD l depth 0) s x v)) >>= k)
         → ((y : Write) → step w at s (attempt w (getD l depth 0) s x v) ≡ ok y → Runs (r + 1) l (performed w at y s) (k y))
         → Runs r l s whole
-    guards : {r : ℕ} {l : List Label} {s : State} {whole : Result Stop State} (depth at : ℕ) (g : Expr) (other : ℕ) (k : Judged → Result Stop State)
-        → GuardAt t r depth at g other
-        → whole ≡ (step w at s (judge w (s .store) g) >>= k)
+    guards : {r : ℕ} {l : List Label} {s : State} {whole : Result Pause State} (depth at : ℕ) (g : Expr) (other : ℕ) (k : Judged → Result Pause State)
+        → GuardAt t r depth at g other → InSpan span r
+        → whole ≡ (refusedAs (pauseAt (span .path r l)) (step w at s (judge w (s .store) g)) >>= k)
         → ((j : Judged) → step w at s (judge w (s .store) g) ≡ ok j
         → Runs (next (j .passes) r other) (set l (depth + 1) (meet (w .tables .order) (getD l depth 0) (j .label))) (counted s) (k j))
         → Runs r l s whole
-    jumps : {r : ℕ} {l : List Label} {s : State} {whole : Result Stop State} (target : ℕ)
+    jumps : {r : ℕ} {l : List Label} {s : State} {whole : Result Pause State} (target : ℕ)
         → JumpAt t r target → Runs target l s whole → Runs r l s whole
 
 -- what the reader made sure of: guards nest no deeper than there are branch labels, and of every expression
@@ -121,10 +134,20 @@ pub record BlockAt (t : Compiled) (r o : ℕ) (c : Cmd) : Type 0 where
   pub fits : r + size c < mostRows
   pub sound : Sound c
 
+-- its rows
+abbrev pub spanOf : Cmd → ℕ → Span
+spanOf c r = record { first = r; last = r + size c; path = λ i l. pathTo l c 0 (i - r) }
+
 -- blocks stand there one after the other
 unfoldable pub BlocksAt : Compiled → ℕ → ℕ → List Block → Type 0
 BlocksAt t r o [] = Unit {0}
 BlocksAt t r o (b ∷ bs) = BlockAt t r o (b .command) × BlocksAt t (r + size (b .command) + 1) (o + length (cmdOperands (b .command))) bs
+
+-- the first row of the i-th of the blocks
+unfoldable pub rowsBefore : List Block → ℕ → ℕ
+rowsBefore bs zero = 0
+rowsBefore [] (suc i) = 0
+rowsBefore (b ∷ bs) (suc i) = size (b .command) + 1 + rowsBefore bs i
 
 -- every block's command is one that the reader lets pass
 unfoldable pub AllSound : List Block → Type 0

@@ -3,19 +3,22 @@ use Prim.Native.Nat.{ℕ, _*_, _≤_}
 use mathlib.Core.Path.{_≡_}
 use mathlib.Core.List.{List}
 use lib.ListN.{length, getD}
+use lib.Dec.{leb}
 use Rattle.store.specs.declared.Answer.{Answer}
 use Rattle.store.specs.declared.Opened.{Opened}
-use Rattle.store.specs.Result.{Result, ok}
+use Rattle.store.specs.Result.{Result, ok, refuse, _>>=_, require, refusedAs, unplaced}
 use Rattle.store.specs.Value.{slotWidth, emptySlot}
-use Rattle.store.specs.Sheet.{Opening, mostSlots}
+use Rattle.store.specs.Sheet.{Opening, mostSlots, storeSheet}
 use Rattle.store.specs.Held.{Ordered, openedOf}
 use Rattle.programme.specs.Sheet.{Block, programmeSheet}
 use Rattle.programme.specs.Rows.{Compiled, mostRows, mostOperands}
-use Rattle.calculus.specs.Rules.{RuleSet}
+use Rattle.calculus.specs.Rules.{RuleSet, rulesOf}
 use Rattle.calculus.specs.Calculus.{limits}
-use Rattle.calculus.specs.Run.{Call, call, Finished, runProgramme, runOpened, run, answerOf, outputOf, entriesOf}
+use Rattle.calculus.specs.Blocks.{mostBudget}
+use Rattle.calculus.specs.Run.{Call, Finished, runProgramme, run, answerOf, outputOf, entriesOf}
 use Rattle.runner.specs.declared.rules.Judges.{Judges}
 use Rattle.runner.specs.declared.journal.First.{First}
+use Rattle.runner.specs.declared.ready.Ready.{Ready}
 use Rattle.runner.specs.Held.{StoreHeld}
 use Rattle.runner.specs.Running.{BlocksAt}
 use Rattle.runner.specs.Playing.{judgesOf}
@@ -47,12 +50,6 @@ pub record Roomy (t : Compiled) : Type 0 where
   pub operands : length (t .operands) ≡ mostOperands
   pub payloads : length (t .payloads) ≡ mostOperands
 
--- a run over it, with the rule set that `j` tells of, is the definitions'
-abbrev pub RunsOpened : Opened → Judges → ℕ → ℕ → List ℕ → Compiled → List (List ℕ) → List ℕ → List ℕ → First → Type 0
-RunsOpened t j budget entries p tables held old out r =
-    (rules : RuleSet) (o : Opening) (store : List ℕ) (rule : ℕ) → OpeningHeld o t held → j ≡ judgesOf (ok rules)
-    → Passes (runOpened rules o (call store p rule budget (length old) entries)) entries p tables held old out r
-
 -- some store was opened
 pub record CanStart (t : Opened) (j : Judges) (held : List (List ℕ)) : Type 0 where
   pub rules : RuleSet
@@ -64,6 +61,35 @@ pub record CanStart (t : Opened) (j : Judges) (held : List (List ℕ)) : Type 0 
 pub record TakenIn (o : Opening) (p : List ℕ) (t : Compiled) (bs : List Block) : Type 0 where
   pub sheet : programmeSheet (o .tables .order .n) (o .tables .slots) p ≡ ok bs
   pub stand : BlocksAt t 0 0 bs
+
+-- What every run begins with: "Order: 11; store sizes present (1), .."; 1 to 5; 6 to 10
+pub record Readied : Type 0 where
+  pub rules : RuleSet
+  pub opening : Opening
+  pub blocks : List Block
+
+unfoldable pub readied : (store p : List ℕ) (rule budget : ℕ) → Result Answer Readied
+readied store p rule budget =
+    refusedAs unplaced (rulesOf rule) >>= λ rules.
+    require (leb budget mostBudget) (unplaced 11) (
+    refusedAs unplaced (storeSheet store) >>= λ o.
+    programmeSheet (o .tables .order .n) (o .tables .slots) p >>= λ blocks.
+    ok (record { rules = rules; opening = o; blocks = blocks }))
+
+-- a run is ready: it stands in the tables and the held store
+pub record IsReady (x : Readied) (p : List ℕ) (t : Compiled) (held : List (List ℕ)) (r : Ready) : Type 0 where
+  pub opening-held : OpeningHeld (x .opening) (r .opened) held
+  pub judges : r .judges ≡ judgesOf (ok (x .rules))
+  pub taken : TakenIn (x .opening) p t (x .blocks)
+
+-- it was refused
+abbrev pub Unready : Answer → Ready → Type 0
+Unready a r = r .answer ≡ a
+
+-- what making it ready answers, and leaves
+pub record Readies (store p : List ℕ) (rule budget : ℕ) (t : Compiled) (held : List (List ℕ)) (r : Ready) : Type 0 where
+  pub ready : r .answer .number ≡ 0 → (x : Readied) × (readied store p rule budget ≡ ok x) × IsReady x p t held r
+  pub refused : (r .answer .number ≡ 0 → ⊥) → readied store p rule budget ≡ refuse (r .answer)
 
 -- playing its blocks, with room for the slots, is the definitions'
 abbrev pub Finishes : Opened → Judges → ℕ → ℕ → List ℕ → Compiled → List (List ℕ) → List ℕ → List ℕ → First → Type 0

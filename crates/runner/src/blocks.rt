@@ -1,13 +1,15 @@
 // Blocks, one after the other, from the compiled tables.
 ghost use mathlib.Core.Path.{_≡_};
 ghost use Rattle.programme.specs.Rows.{tablesOf};
-ghost use Rattle.runner.specs.Playing.{played, openingPlace, CanPlay, PlaysBlock, CanPlayOn, PlaysOn};
+ghost use Rattle.programme.specs.Sheet.{headerAt};
+ghost use Rattle.runner.specs.Playing.{played, openingPlace, Served, CanTell, CanPlayOn, PlaysOn};
 use super::machine;
 use super::machine::Ran;
 use super::rules;
 use super::rules::Judges;
+use super::rules::Labels;
+use super::rules::Terms;
 use lattice::Table;
-use programme::Header;
 use programme::Operands;
 use programme::Payloads;
 use programme::Row;
@@ -15,7 +17,7 @@ use programme::Rows;
 use programme::Sizes;
 use store::Held;
 
-// Where a run of blocks stands: the block that is next, its first row, the steps done, and the entries that are free.
+// Where a run of blocks stands: the block and the row that are next, the steps done, and the entries that are free.
 pub struct Place {
     pub block: usize,
     pub row: usize,
@@ -23,7 +25,7 @@ pub struct Place {
     pub free: usize,
 }
 
-// How a run of blocks ended.
+// How a run of blocks ended: finished; or the step at a row of a block was refused, its command's offset being `offset`.
 pub enum Ended {
     Finished {
         steps: u32,
@@ -32,6 +34,7 @@ pub enum Ended {
     Halted {
         number: u32,
         block: usize,
+        row: usize,
         offset: usize,
         steps: u32,
     },
@@ -49,79 +52,53 @@ pub(crate) fn opening(entries: usize) -> Place
     }
 }
 
-// Plays the block whose first row is `row`. Its branch label is the top, at every depth to begin with.
-fn play_block(
-    rows: &Rows,
-    operands: &Operands,
-    payloads: &Payloads,
-    held: &mut Held,
-    table: Table,
-    judges: Judges,
-    header: Header,
-    budget: u32,
-    row: usize,
-    steps: u32,
-    free: usize,
-) -> Ran
-    requires { ⌜ CanPlay (played (tablesOf (now rows) (now operands) (now payloads)) table judges budget) header row steps free (now held) ⌝ }
-    ensures { λ r. ⌜
-        PlaysBlock (played (tablesOf (now (rows .entry)) (now (operands .entry)) (now (payloads .entry))) table judges budget)
-        header row steps free (now (held .entry)) (now (held .exit)) r
-        ⌝ }
+// What a block of the programme runs under.
+pub(crate) fn block_terms(sheet: &[u8], table: Table, judges: Judges, block: usize) -> Terms
+    requires { ⌜ CanTell (now sheet) block ⌝ }
+    ensures { λ r. ⌜ Served table judges (headerAt (now (sheet .entry)) block) r ⌝ }
 {
-    let terms = rules::terms_of(table, judges, header);
-    let masks = table.masks;
-    let top = terms.top;
-    let mut labels = [top; Row::DEPTHS];
-    machine::go(
-        rows,
-        operands,
-        payloads,
-        &mut labels,
-        held,
-        &masks,
-        terms,
-        budget,
-        row,
-        steps,
-        free,
-    )
+    let k = store::number_at(sheet, 0, 1) as usize;
+    let at = Sizes::WIDTH + block;
+    let header = programme::header_of(sheet[at], sheet[at + Sizes::FLOORS * k]);
+    rules::terms_of(table, judges, header)
 }
 
-// Plays the blocks from a place on. Each block's first row follows the end row of the one before.
+// Plays the blocks from a place on, which may stand inside a block, under the branch labels in force there. Each block's first row follows the end
+// row of the one before; its branch label is the top, at every depth to begin with.
 pub(crate) fn play_blocks(
     sheet: &[u8],
     k: usize,
     rows: &Rows,
     operands: &Operands,
     payloads: &Payloads,
+    labels: &mut Labels,
     held: &mut Held,
     table: Table,
     judges: Judges,
     budget: u32,
     from: Place,
 ) -> Ended
-    requires { ⌜ CanPlayOn (played (tablesOf (now rows) (now operands) (now payloads)) table judges budget) (now sheet) k from (now held) ⌝ }
+    requires { ⌜ CanPlayOn (played (tablesOf (now rows) (now operands) (now payloads)) table judges budget) (now sheet) k from (now labels) (now held) ⌝ }
     ensures { λ r. ⌜
         PlaysOn (played (tablesOf (now (rows .entry)) (now (operands .entry)) (now (payloads .entry))) table judges budget)
-        (now (sheet .entry)) k from (now (held .entry)) (now (held .exit)) r
+        (now (sheet .entry)) k from (now (labels .entry)) (now (held .entry)) (now (labels .exit)) (now (held .exit)) r
         ⌝ }
 {
+    let masks = table.masks;
     let mut block = from.block;
     let mut row = from.row;
     let mut steps = from.steps;
     let mut free = from.free;
     while block < k {
-        let at = Sizes::WIDTH + block;
-        let header = programme::header_of(sheet[at], sheet[at + Sizes::FLOORS * k]);
-        match play_block(
+        let terms = block_terms(sheet, table, judges, block);
+        match machine::go(
             rows,
             operands,
             payloads,
+            labels,
             held,
-            table,
-            judges,
-            header,
+            &masks,
+            terms,
             budget,
             row,
             steps,
@@ -132,6 +109,8 @@ pub(crate) fn play_blocks(
                 steps: done,
                 free: left,
             } => {
+                let top = terms.top;
+                *labels = [top; Row::DEPTHS];
                 block += 1;
                 row = last + 1;
                 steps = done;
@@ -139,13 +118,14 @@ pub(crate) fn play_blocks(
             }
             Ran::Stopped {
                 number,
-                row: _,
+                row: here,
                 at,
                 steps: done,
             } => {
                 return Ended::Halted {
                     number,
                     block,
+                    row: here,
                     offset: at,
                     steps: done,
                 };

@@ -4,13 +4,11 @@ ghost use Prim.Native.Nat.{_+_, _^_, _<_};
 ghost use lib.ListN.{length, getD, set};
 ghost use Rattle.store.specs.Value.{kinds};
 ghost use Rattle.programme.specs.Rows.{tablesOf};
-ghost use Rattle.programme.specs.Sheet.{headerAt};
 ghost use Rattle.runner.specs.Machine.{given, place};
-ghost use Rattle.runner.specs.Playing.{Served};
-ghost use Rattle.runner.specs.Journal.{Nothing, Enters, EntersFirst, CanTell, CanMake, Makes, replayed, seated, opens, Going, Wrote, Ready, Filled};
+ghost use Rattle.runner.specs.Journal.{Nothing, Enters, EntersFirst, CanMake, Makes, replayed, seated, opens, Going, Wrote, Ready, Filled};
+use super::blocks;
 use super::machine;
 use super::machine::Ran;
-use super::rules;
 use super::rules::Judges;
 use super::rules::Labels;
 use super::rules::Terms;
@@ -22,7 +20,6 @@ use programme::Operands;
 use programme::Payloads;
 use programme::Row;
 use programme::Rows;
-use programme::Sizes;
 use store::Answer;
 use store::Entry;
 use store::Held;
@@ -77,17 +74,6 @@ fn enter(labels: &mut Labels, seat: &mut Seat, n: usize)
     let top = lattice::top_mask(n);
     *labels = [top; Row::DEPTHS];
     seat[First::ENTERED] += 1;
-}
-
-// What a block of the programme runs under.
-fn block_terms(programme: &[u8], first: First, block: usize) -> Terms
-    requires { ⌜ CanTell (now programme) block ⌝ }
-    ensures { λ r. ⌜ Served (first .table) (first .judges) (headerAt (now (programme .entry)) block) r ⌝ }
-{
-    let k = store::number_at(programme, 0, 1) as usize;
-    let at = Sizes::WIDTH + block;
-    let header = programme::header_of(programme[at], programme[at + Sizes::FLOORS * k]);
-    rules::terms_of(first.table, first.judges, header)
 }
 
 // A value as a slot's row has it.
@@ -183,7 +169,7 @@ pub(crate) fn next_write<'p, 't, 'a>(
         let block = seat[First::ENTERED] - 1;
         let row = seat[First::ROW];
         let steps = seat[First::STEPS] as u32;
-        let terms = block_terms(programme, first, block);
+        let terms = blocks::block_terms(programme, first.table, first.judges, block);
         match machine::go(
             rows,
             operands,

@@ -3,7 +3,7 @@ ghost use mathlib.Core.Path.{_≡_};
 ghost use lib.ListN.{length};
 ghost use Rattle.programme.specs.Rows.{tablesOf};
 ghost use Rattle.calculus.specs.Run.{call, answer, output, journal as journalAfter};
-ghost use Rattle.runner.specs.Whole.{Roomy, RunsOpened, CanStart, Finishes, CanFinish, FirstPass};
+ghost use Rattle.runner.specs.Whole.{Roomy, Finishes, CanFinish, FirstPass};
 use blocks::Ended;
 use journal::First;
 use programme::Operand;
@@ -21,6 +21,7 @@ mod blocks;
 mod expressions;
 mod journal;
 mod machine;
+mod ready;
 mod rules;
 mod second;
 mod slots;
@@ -50,12 +51,15 @@ fn finish(
     let slots = opened.slots;
     let table = opened.table;
     let from = blocks::opening(entries);
+    let top = lattice::top_mask(table.n);
+    let mut labels = [top; Row::DEPTHS];
     match blocks::play_blocks(
         programme,
         k,
         rows,
         operands,
         payloads,
+        &mut labels,
         held,
         table,
         judges,
@@ -81,6 +85,7 @@ fn finish(
         Ended::Halted {
             number,
             block,
+            row: _,
             offset,
             steps,
         } => {
@@ -95,53 +100,8 @@ fn finish(
     }
 }
 
-// A run over an opened store: the programme sheet (6 to 10), compiled as it is checked; the output's length (12); then the blocks, over a copy
-// of the store.
-fn run_opened(
-    programme: &[u8],
-    opened: Opened,
-    judges: Judges,
-    budget: u32,
-    entries: usize,
-    rows: &mut Rows,
-    operands: &mut Operands,
-    payloads: &mut Payloads,
-    held: &Held,
-    out: &mut [u8],
-) -> First
-    requires { ⌜ CanStart opened judges (now held) × Roomy (tablesOf (now rows) (now operands) (now payloads)) ⌝ }
-    ensures { λ r. ⌜
-        RunsOpened opened judges budget entries (now (programme .entry))
-        (tablesOf (now (rows .exit)) (now (operands .exit)) (now (payloads .exit)))
-        (now (held .entry)) (now (out .entry)) (now (out .exit)) r
-        ⌝ }
-{
-    let slots = opened.slots;
-    let table = opened.table;
-    let compiled = programme::compile(programme, table.n, slots, rows, operands, payloads);
-    if compiled.number != Answer::FINISHED {
-        return journal::refused(compiled, judges, budget);
-    }
-    if out.len() != Opened::SLOT_WIDTH * slots {
-        return journal::refused(store::unplaced(Answer::OUTPUT_LENGTH), judges, budget);
-    }
-    let mut work = *held;
-    finish(
-        programme,
-        rows,
-        operands,
-        payloads,
-        opened,
-        judges,
-        budget,
-        entries,
-        &mut work,
-        out,
-    )
-}
-
-// The first pass: judges the arguments (11), opens the store sheet (1 to 5), and runs the programme. It leaves the opening store and the compiled
-// tables for the second.
+// The first pass: what every run begins with (11; 1 to 10), the output's length (12), then the blocks, over a copy of the store. It leaves the opening
+// store and the compiled tables for the second.
 fn first_pass<'s, 'p, 'o, 'a>(
     store: &'s [u8],
     programme: &'p [u8],
@@ -160,29 +120,36 @@ fn first_pass<'s, 'p, 'o, 'a>(
         (now (out .entry)) (now (out .exit)) (tablesOf (now (rows .exit)) (now (operands .exit)) (now (payloads .exit))) (now (held .exit)) r
         ⌝ }
 {
-    let judges = rules::judges_of(rule);
-    let known = judges.known;
-    if !known {
-        return journal::refused(store::unplaced(Answer::ARGUMENTS), judges, budget);
-    }
-    if Judges::MOST_BUDGET < budget {
-        return journal::refused(store::unplaced(Answer::ARGUMENTS), judges, budget);
-    }
-    let opened = store::open_store(store, held);
-    let refusal = opened.refusal;
-    if refusal != 0 {
-        return journal::refused(store::unplaced(refusal), judges, budget);
-    }
-    run_opened(
+    let ready = ready::prepare(
+        store,
         programme,
-        opened,
-        judges,
+        rule,
         budget,
-        entries,
         rows,
         operands,
         payloads,
         held,
+    );
+    let answer = ready.answer;
+    let opened = ready.opened;
+    let judges = ready.judges;
+    if answer.number != Answer::FINISHED {
+        return journal::refused(answer, judges, budget);
+    }
+    if out.len() != Opened::SLOT_WIDTH * opened.slots {
+        return journal::refused(store::unplaced(Answer::OUTPUT_LENGTH), judges, budget);
+    }
+    let mut work = *held;
+    finish(
+        programme,
+        rows,
+        operands,
+        payloads,
+        opened,
+        judges,
+        budget,
+        entries,
+        &mut work,
         out,
     )
 }

@@ -3,8 +3,8 @@ use denote.Ref.{now}
 use borrow.Author.Needs.{needs}
 use Rattle.programme.specs.Sheet.{headerAt}
 use Rattle.programme.proofs.Heading.{header-there}
-use Rattle.runner.proofs.journal.block_terms.Statement.{statement}
-use Rattle.runner.proofs.journal.block_terms.Tie as tie
+use Rattle.runner.proofs.blocks.block_terms.Statement.{statement}
+use Rattle.runner.proofs.blocks.block_terms.Tie as tie
 
 number-at-requires : tie.Need-number-at-requires
 number-at-requires c κs = search needs
@@ -30,7 +30,7 @@ header-of-requires c κs = search needs
 -- the block's header, from both its bytes
 is-header : (c : tie.After-header-of)
     → let n = c .before .before .before in
-    c .header-of .result ≡ headerAt (now (n .before .before .args .programme)) (n .before .before .args .block)
+    c .header-of .result ≡ headerAt (now (n .before .before .args .sheet)) (n .before .before .args .block)
 is-header c = let n = c .before .before .before in header-there _ _ _ _ (n .number-at .ensures) (c .header-of .ensures)
 
 terms-of-requires : tie.Need-terms-of-requires
