@@ -1,11 +1,11 @@
 -- Taking blocks up from their start is running them, but for the paths of stops. Assumes nothing.
 use Prim.Native.Nat.{ℕ, _+_}
-use mathlib.Core.Path.{_≡_, refl, sym, ap, _∙_}
+use mathlib.Core.Path.{_≡_, refl, ap, _∙_}
 use mathlib.Core.List.{List, [], _∷_}
 use Rattle.lattice.specs.Order.{Label, top}
 use Rattle.store.specs.Result.{Result, ok, refuse, _>>=_, refusedAs}
 use Rattle.store.specs.Sheet.{Tables}
-use Rattle.programme.specs.Syntax.{Cmd, cmd, skip, assign, seq, if, while}
+use Rattle.programme.specs.Syntax.{Cmd, cmd, Body, skip, assign, seq, if, while}
 use Rattle.programme.specs.Sheet.{Block}
 use Rattle.calculus.specs.Rules.{RuleSet}
 use Rattle.calculus.specs.Calculus.{Limits, Setting, State}
@@ -15,13 +15,17 @@ use Rattle.calculus.specs.Stretches.{Halted, haltedIn, takeUpBlocks}
 use Rattle.calculus.proofs.PathsAside.{paths-aside}
 
 -- along the empty path a command is played
+pub take-none-body : (w : Setting) (b : Body) (at : ℕ) (branch : Label) (s : State) → takeUpBody w b at branch [] s ≡ playBody w b at branch s
+unfolding takeUpBody
+take-none-body w skip at branch s = refl
+take-none-body w (assign x v) at branch s = refl
+take-none-body w (seq cs) at branch s = refl
+take-none-body w (if g c d) at branch s = refl
+take-none-body w (while g c) at branch s = refl
+
 pub take-up-none : (w : Setting) (c : Cmd) (branch : Label) (s : State) → takeUp w c branch [] s ≡ play w c branch s
-unfolding takeUp takeUpBody play
-take-up-none w (cmd at skip) branch s = refl
-take-up-none w (cmd at (assign x v)) branch s = refl
-take-up-none w (cmd at (seq cs)) branch s = refl
-take-up-none w (cmd at (if g c d)) branch s = refl
-take-up-none w (cmd at (while g c)) branch s = refl
+unfolding takeUp play
+take-up-none w (cmd at b) branch s = take-none-body w b at branch s
 
 -- a stop of a run of blocks without its path
 abbrev pub haltOf : Halted → Halt

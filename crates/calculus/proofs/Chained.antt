@@ -13,7 +13,7 @@ use Rattle.store.specs.Result.{Result, ok, refuse, _>>=_, require, refusedAs, s
 use Rattle.store.specs.Bytes.{numberBytes}
 use Rattle.store.specs.Value.{slotWidth}
 use Rattle.store.specs.Sheet.{Opening, storeSheet, slotsBytes}
-use Rattle.store.proofs.Result.{Any, post-ok, post-require, post-at, post-refused, one-value}
+use Rattle.store.proofs.Result.{post-refused, one-value}
 use Rattle.store.proofs.Bytes.{length-number, length-slots}
 use Rattle.programme.specs.Sheet.{Block, programmeSheet}
 use Rattle.calculus.specs.Rules.{RuleSet, rulesOf}
@@ -24,10 +24,11 @@ use Rattle.calculus.specs.Stretches.{Position, standing, From, opening, 
 use Rattle.calculus.specs.Stretched.{Chain, begun, carried, Means, stepsAt, EndsAlike}
 use Rattle.calculus.proofs.Alike.{Alike}
 use Rattle.calculus.proofs.Unjournalled.{Beside, HaltsBeside}
-use Rattle.calculus.proofs.StartsAsRun.{settled-17, settled-else, halts-alike, and-true}
+use Rattle.calculus.proofs.Settled.{haltedAt, settled-17, settled-else}
+use Rattle.calculus.proofs.StartsAsRun.{halts-alike, and-true}
 use Rattle.calculus.proofs.Checkpoints.{TakenIn, GoesOn, PausedAt}
 use Rattle.calculus.proofs.Halting.{follows}
-use Rattle.calculus.proofs.Outcomes.{haltedAt, stretch-pauses}
+use Rattle.calculus.proofs.Outcomes.{taken-up, stretch-pauses}
 use Rattle.calculus.proofs.Resumed.{restored, goes-on, restored-paused, start-good, pauses-good, read-back}
 use Rattle.calculus.proofs.OnTheWay.{OnWay, on-start, on-pause}
 
@@ -81,9 +82,7 @@ end-same blocks slots budget entries entries′ (refuse g) (refuse h) z = halt-s
 -- a checkpoint that is taken in goes on with the steps that it says
 position-steps : (o : Opening) (blocks : List Block) (out sheet : List ℕ) (x : Position) → positionOf o blocks (checkpoint out sheet) ≡ ok x
     → stepsIn sheet ≡ x .state .steps
-unfolding positionOf
-position-steps o blocks out sheet x e =
-    post-at (λ y. stepsIn sheet ≡ y .state .steps) Any _ x (post-require _ _ _ _ _ (λ _. post-ok _ _ _ refl) (λ _. tt)) e
+position-steps o blocks out sheet x e = ap (λ (y : Position). y .state .steps) (taken-up o blocks out sheet x e .1)
 
 -- a stretch under the rules that is out of budget, over sheets that were taken in
 record PausesAt (rules : RuleSet) (o : Opening) (blocks : List Block) (from : From) (c : Stretch) : Type 0 where

@@ -1,19 +1,19 @@
 -- What a path that leads tells: it is short, its children fit a byte and its labels are principals'. Assumes nothing.
 use Prim.Native.Nat.{ℕ, zero, suc, _+_, _<_}
 use mathlib.Core.Path.{_≡_}
-use mathlib.Core.Bool.{true, false, false≢true}
+use mathlib.Core.Bool.{true}
 use mathlib.Core.List.{List, [], _∷_}
 use native.Mathlib.Omega.{arith}
 use lib.ListN.{length}
-use lib.Dec.{eqb}
-use borrow.Author.Tests.{eqb-true, ltb-true}
+use borrow.Author.Tests.{ltb-true}
 use Rattle.lattice.specs.declared.Table.{Table}
 use Rattle.lattice.specs.Tests.{_and_}
 use Rattle.lattice.specs.Order.{Label}
-use Rattle.lattice.proofs.Tests.{and-l, and-r}
+use Rattle.lattice.proofs.Tests.{and-l}
 use Rattle.programme.specs.Syntax.{Cmd, cmd, Body, skip, assign, seq, if, while, Cmds, nil, cons}
 use Rattle.programme.specs.Code.{mostDeep}
 use Rattle.calculus.specs.Paths.{Open, Child, nowhere, inSequence, insideGuard, childIn, childOf, child, atOrBelow, leads}
+use Rattle.calculus.proofs.NextStep.{Through, through}
 use Rattle.calculus.proofs.Readable.{countCmds, Fine, FineBody, FineAll}
 
 -- every entry of a path satisfies P
@@ -58,28 +58,7 @@ module _ (m depth : ℕ) where
   unfolding child Fine
   child-fine (cmd at b) k f = in-body b k (f .1)
 
--- a path that leads through its first entry: to a child, whose label it has
 module _ (t : Table) where
-  unfoldable pub Through : Label → Open → List Open → Child → Type 0
-  Through outer o p nowhere = ⊥
-  Through outer o p (inSequence d) = (o .label ≡ outer) × (leads t d (o .label) p ≡ true)
-  Through outer o p (insideGuard d) = (atOrBelow t (o .label) outer ≡ true) × (leads t d (o .label) p ≡ true)
-
-  pub through : (c : Cmd) (outer : Label) (o : Open) (p : List Open) → leads t c outer (o ∷ p) ≡ true → Through outer o p (child c (o .child))
-  unfolding leads Through
-  through c outer o p = go (child c (o .child))
-    where
-      go : (x : Child)
-          → elim x [
-            | nowhere ↦ false
-            | inSequence d ↦ eqb (o .label) outer and leads t d (o .label) p
-            | insideGuard d ↦ atOrBelow t (o .label) outer and leads t d (o .label) p
-          ] ≡ true
-          → Through outer o p x
-      go nowhere e = absurd (false≢true e)
-      go (inSequence d) e = (eqb-true (o .label) outer (and-l _ _ e), and-r _ _ e)
-      go (insideGuard d) e = (and-l _ _ e, and-r _ _ e)
-
   -- the facts of a path, for a command inside `depth` others
   pub record Followed (depth : ℕ) (p : List Open) : Type 0 where
     pub short : depth + length p < mostDeep
@@ -89,7 +68,7 @@ module _ (t : Table) where
     -- along the first entry
     along : (depth : ℕ) (outer : Label) (o : Open) (p : List Open) → outer < t .n
         → ((d : Cmd) → Fine m (depth + 1) d → o .label < t .n → leads t d (o .label) p ≡ true → Followed (depth + 1) p)
-        → (x : Child) → At (Numbered m depth (o .child)) x → Through outer o p x → Followed depth (o ∷ p)
+        → (x : Child) → At (Numbered m depth (o .child)) x → Through t outer (o .label) p x → Followed depth (o ∷ p)
     unfolding At Through Each atOrBelow
     along depth outer o p h f nowhere a z = absurd z
     along depth outer o p h f (inSequence d) a z =
@@ -104,4 +83,4 @@ module _ (t : Table) where
     leads-followed [] depth (cmd at b) outer h f e = record { short = omega (arith, f .0); small = tt }
     leads-followed (o ∷ p) depth c outer h f e =
         along depth outer o p h (λ d g l z. leads-followed p (depth + 1) d (o .label) l g z) (child c (o .child)) (child-fine m depth c (o .child) f)
-        (through c outer o p e)
+        (through t c outer o p e)

@@ -1,7 +1,7 @@
 -- The step that a path leads to is the first that taking up along it comes to, and with no more steps left it is the last. Assumes nothing.
 use Prim.Native.Nat.{ℕ, zero, suc, _+_, _-_}
-use mathlib.Core.Path.{_≡_, refl, sym, subst, _∙_}
-use mathlib.Core.Bool.{Bool, true, false, false≢true}
+use mathlib.Core.Path.{_≡_, refl, sym, subst}
+use mathlib.Core.Bool.{true, false, false≢true}
 use mathlib.Core.List.{List, [], _∷_}
 use native.Mathlib.Omega.{arith}
 use lib.Dec.{eqb}
@@ -17,10 +17,7 @@ use Rattle.calculus.specs.Calculus.{Setting, State, Stop, Judged, step, 
 use Rattle.calculus.specs.Forbidden.{Task, judging, assigning}
 use Rattle.calculus.specs.Paths.{Open, Pause, pauseAt, within, rounds, play, playBody, playAll, takeUp, takeUpBody, takeUpAll, Child, nowhere, inSequence, insideGuard, childIn, childOf, child, stepsBody, takesStep, atOrBelow, leads}
 use Rattle.calculus.specs.Stretched.{Does, nothing, tries, own, due}
-
--- A command's answer: its end, or the stop of its pause
-abbrev pub PostStop : (State → Type 0) → (Stop → Type 0) → Result Pause State → Type 0
-PostStop P Q r = Post P (λ (x : Pause). Q (x .stop)) r
+use Rattle.calculus.proofs.PathsAside.{PostStop}
 
 -- Out of budget
 
@@ -56,7 +53,7 @@ module _ (w : Setting) where
         → PostStop (λ t. t ≡ s) (SpentAt s) (playBody w b at branch s)
     body-spent skip at branch s h = post-ok _ _ _ refl
     body-spent (assign x v) at branch s h = post-bind (λ _. ⊥) _ _ _ _ (stops-at-once _ at s _ h) (λ _ n. absurd n)
-    body-spent (seq cs) at branch s h = all-spent cs 0 branch s h
+    body-spent (seq cs) at branch s h = all-spent cs _ branch s h
     body-spent (if g c d) at branch s h = post-bind (λ _. ⊥) _ _ _ _ (stops-at-once _ at s _ h) (λ _ n. absurd n)
     body-spent (while g c) at branch s h = rounds-spent _ _ _ at (w .limits .budget - s .steps) s (omega arith)
 
@@ -83,29 +80,31 @@ own-spent R w s h (cmd at (seq cs)) branch r = absurd r
 own-spent R w s h (cmd at (if g c d)) branch r = post-bind (λ _. ⊥) _ _ _ _ (stops-at-once w _ at s _ h) (λ _ n. absurd n)
 own-spent R w s h (cmd at (while g c)) branch r = rounds-spent w _ _ _ at (w .limits .budget - s .steps) s (omega arith)
 
--- a path leads on through a child, and what is due there
-unfoldable pub leadsOn : Table → Child → Label → Label → List Open → Bool
-leadsOn t nowhere outer label p = false
-leadsOn t (inSequence d) outer label p = eqb label outer and leads t d label p
-leadsOn t (insideGuard d) outer label p = atOrBelow t label outer and leads t d label p
+-- a path that leads through its first entry: to a child, whose label it has
+unfoldable pub Through : Table → Label → Label → List Open → Child → Type 0
+Through t outer label p nowhere = ⊥
+Through t outer label p (inSequence d) = (label ≡ outer) × (leads t d label p ≡ true)
+Through t outer label p (insideGuard d) = (atOrBelow t label outer ≡ true) × (leads t d label p ≡ true)
 
+-- and what is due there
 unfoldable pub dueIn : Child → Label → List Open → Does
 dueIn nowhere label p = nothing
 dueIn (inSequence d) label p = due d label p
 dueIn (insideGuard d) label p = due d label p
 
-leads-on : (t : Table) (c : Cmd) (outer : Label) (o : Open) (p : List Open) → leads t c outer (o ∷ p) ≡ leadsOn t (child c (o .child)) outer (o .label) p
-unfolding leads leadsOn
-leads-on t c outer o p = by-child (child c (o .child))
+pub through : (t : Table) (c : Cmd) (outer : Label) (o : Open) (p : List Open) → leads t c outer (o ∷ p) ≡ true
+    → Through t outer (o .label) p (child c (o .child))
+unfolding leads Through
+through t c outer o p = by-child (child c (o .child))
   where
     by-child : (x : Child) → elim x [
       | nowhere ↦ false
       | inSequence d ↦ eqb (o .label) outer and leads t d (o .label) p
       | insideGuard d ↦ atOrBelow t (o .label) outer and leads t d (o .label) p
-    ] ≡ leadsOn t x outer (o .label) p
-    by-child nowhere = refl
-    by-child (inSequence d) = refl
-    by-child (insideGuard d) = refl
+    ] ≡ true → Through t outer (o .label) p x
+    by-child nowhere e = absurd (false≢true e)
+    by-child (inSequence d) e = (eqb-true (o .label) outer (and-l _ _ e), and-r _ _ e)
+    by-child (insideGuard d) e = (and-l _ _ e, and-r _ _ e)
 
 due-in : (c : Cmd) (branch : Label) (o : Open) (p : List Open) → due c branch (o ∷ p) ≡ dueIn (child c (o .child)) (o .label) p
 unfolding due dueIn
@@ -130,11 +129,11 @@ own-due (cmd at (if g c d)) branch h = (at, judging g, refl)
 own-due (cmd at (while g c)) branch h = (at, judging g, refl)
 
 in-child : (t : Table) (x : Child) (outer label : Label) (p : List Open) → ((d : Cmd) → leads t d label p ≡ true → IsDue (due d label p))
-    → leadsOn t x outer label p ≡ true → IsDue (dueIn x label p)
-unfolding leadsOn dueIn
-in-child t nowhere outer label p go h = absurd (false≢true h)
-in-child t (inSequence d) outer label p go h = go d (and-r _ _ h)
-in-child t (insideGuard d) outer label p go h = go d (and-r _ _ h)
+    → Through t outer label p x → IsDue (dueIn x label p)
+unfolding Through dueIn
+in-child t nowhere outer label p go h = absurd h
+in-child t (inSequence d) outer label p go h = go d (h .1)
+in-child t (insideGuard d) outer label p go h = go d (h .1)
 
 -- a path that leads to a step has one due
 pub leads-due : (t : Table) (c : Cmd) (outer : Label) (p : List Open) → leads t c outer p ≡ true → IsDue (due c outer p)
@@ -142,7 +141,7 @@ unfolding leads due
 leads-due t c outer [] h = own-due c outer h
 leads-due t c outer (o ∷ p) h =
     subst IsDue (sym (due-in c outer o p))
-    (in-child t (child c (o .child)) outer (o .label) p (λ d. leads-due t d (o .label) p) (sym (leads-on t c outer o p) ∙ h))
+    (in-child t (child c (o .child)) outer (o .label) p (λ d. leads-due t d (o .label) p) (through t c outer o p h))
 
 -- Taking up along a path that leads to a step comes to that step first (`first`), and to what follows it only from where it ends (`after`).
 module _ (w : Setting) (s : State) (P : State → Type 0) (Q : Stop → Type 0) (R : ℕ → Task → Type 0)
@@ -158,36 +157,29 @@ module _ (w : Setting) (s : State) (P : State → Type 0) (Q : Stop → Type 0) 
   TakesUp c branch p = leads (w .tables .order) c branch p ≡ true → Doing R (due c branch p) → PostStop P Q (takeUp w c branch p s)
 
   in-if : (g : Expr) (c d : Cmd) (k : ℕ) (branch label : Label) (p : List Open) → TakesUp c label p → TakesUp d label p
-      → leadsOn (w .tables .order) (childOf (if g c d) k) branch label p ≡ true → Doing R (dueIn (childOf (if g c d) k) label p)
+      → Through (w .tables .order) branch label p (childOf (if g c d) k) → Doing R (dueIn (childOf (if g c d) k) label p)
       → PostStop P Q (choose (eqb k 0)
       (λ t. refusedAs (within 0 label) (takeUp w c label p t)) (λ t. refusedAs (within 1 label) (takeUp w d label p t)) s)
-  unfolding childOf leadsOn dueIn choose
-  in-if g c d zero branch label p x y h r = post-refused-as _ _ _ _ (x (and-r _ _ h) r)
-  in-if g c d (suc zero) branch label p x y h r = post-refused-as _ _ _ _ (y (and-r _ _ h) r)
-  in-if g c d (suc (suc k)) branch label p x y h r = absurd (false≢true h)
+  unfolding childOf Through dueIn choose
+  in-if g c d zero branch label p x y h r = post-refused-as _ _ _ _ (x (h .1) r)
+  in-if g c d (suc zero) branch label p x y h r = post-refused-as _ _ _ _ (y (h .1) r)
+  in-if g c d (suc (suc k)) branch label p x y h r = absurd h
 
   in-while : (g : Expr) (c : Cmd) (at k : ℕ) (branch label : Label) (p : List Open) → TakesUp c label p
-      → leadsOn (w .tables .order) (childOf (while g c) k) branch label p ≡ true → Doing R (dueIn (childOf (while g c) k) label p)
+      → Through (w .tables .order) branch label p (childOf (while g c) k) → Doing R (dueIn (childOf (while g c) k) label p)
       → PostStop P Q (refusedAs (within 0 label) (takeUp w c label p s) >>= λ t. playBody w (while g c) at branch t)
-  unfolding childOf leadsOn dueIn play
+  unfolding childOf Through dueIn play
   in-while g c at zero branch label p x h r =
-      post-bind _ _ _ _ _ (post-refused-as _ _ _ _ (x (and-r _ _ h) r)) (λ t q. after (cmd at (while g c)) branch t q)
-  in-while g c at (suc k) branch label p x h r = absurd (false≢true h)
+      post-bind _ _ _ _ _ (post-refused-as _ _ _ _ (x (h .1) r)) (λ t q. after (cmd at (while g c)) branch t q)
+  in-while g c at (suc k) branch label p x h r = absurd h
 
   -- in a sequence the label is the one outside
   in-first : (c : Cmd) (cs : Cmds) (i : ℕ) (branch label : Label) (p : List Open) → TakesUp c branch p
-      → leadsOn (w .tables .order) (inSequence c) branch label p ≡ true → Doing R (dueIn (inSequence c) label p)
+      → Through (w .tables .order) branch label p (inSequence c) → Doing R (dueIn (inSequence c) label p)
       → PostStop P Q (refusedAs (within i branch) (takeUp w c branch p s) >>= λ t. playAll w cs (i + 1) branch t)
-  unfolding leadsOn dueIn
+  unfolding Through dueIn
   in-first c cs i branch label p x h r =
-      let e = eqb-true label branch (and-l _ _ h) in
-      post-bind _ _ _ _ _
-      (post-refused-as _ _ _ _ (x (rw e at (and-r (eqb label branch) (leads (w .tables .order) c label p) h)) (rw e at r)))
-      (λ t q. rest cs (i + 1) branch t q)
-
-  led : (c : Cmd) (branch : Label) (o : Open) (p : List Open) → leads (w .tables .order) c branch (o ∷ p) ≡ true
-      → leadsOn (w .tables .order) (child c (o .child)) branch (o .label) p ≡ true
-  led c branch o p h = sym (leads-on (w .tables .order) c branch o p) ∙ h
+      post-bind _ _ _ _ _ (post-refused-as _ _ _ _ (x (rw (h .0) at (h .1)) (rw (h .0) at r))) (λ t q. rest cs (i + 1) branch t q)
 
   turned : (c : Cmd) (branch : Label) (o : Open) (p : List Open) → Doing R (due c branch (o ∷ p)) → Doing R (dueIn (child c (o .child)) (o .label) p)
   turned c branch o p r = subst (Doing R) (due-in c branch o p) r
@@ -205,18 +197,18 @@ module _ (w : Setting) (s : State) (P : State → Type 0) (Q : Stop → Type 0) 
     body-takes-up (assign x v) at branch (o ∷ p) h r = absurd (turned (cmd at (assign x v)) branch o p r)
     body-takes-up (seq cs) at branch [] h r = absurd r
     body-takes-up (seq cs) at branch (o ∷ p) h r =
-        all-take-up cs 0 (o .child) branch (o .label) p (led (cmd at (seq cs)) branch o p h) (turned (cmd at (seq cs)) branch o p r)
+        all-take-up cs 0 (o .child) branch (o .label) p (through (w .tables .order) (cmd at (seq cs)) branch o p h) (turned (cmd at (seq cs)) branch o p r)
     body-takes-up (if g c d) at branch [] h r = first (cmd at (if g c d)) branch r
     body-takes-up (if g c d) at branch (o ∷ p) h r =
         in-if g c d (o .child) branch (o .label) p (λ a b. takes-up c (o .label) p a b) (λ a b. takes-up d (o .label) p a b)
-        (led (cmd at (if g c d)) branch o p h) (turned (cmd at (if g c d)) branch o p r)
+        (through (w .tables .order) (cmd at (if g c d)) branch o p h) (turned (cmd at (if g c d)) branch o p r)
     body-takes-up (while g c) at branch [] h r = first (cmd at (while g c)) branch r
     body-takes-up (while g c) at branch (o ∷ p) h r =
         in-while g c at (o .child) branch (o .label) p (λ a b. takes-up c (o .label) p a b)
-        (led (cmd at (while g c)) branch o p h) (turned (cmd at (while g c)) branch o p r)
+        (through (w .tables .order) (cmd at (while g c)) branch o p h) (turned (cmd at (while g c)) branch o p r)
 
     all-take-up : (cs : Cmds) (i k : ℕ) (branch label : Label) (p : List Open)
-        → leadsOn (w .tables .order) (childIn cs k) branch label p ≡ true → Doing R (dueIn (childIn cs k) label p)
+        → Through (w .tables .order) branch label p (childIn cs k) → Doing R (dueIn (childIn cs k) label p)
         → PostStop P Q (takeUpAll w cs i k branch p s)
     all-take-up nil i k branch label p h r = absurd r
     all-take-up (cons c cs) i zero branch label p h r = in-first c cs i branch label p (λ a b. takes-up c branch p a b) h r

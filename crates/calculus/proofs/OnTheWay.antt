@@ -22,7 +22,7 @@ use Rattle.calculus.proofs.Pausing.{stopIn, resumedBlocks, blocks-onwar
 use Rattle.calculus.proofs.Alike.{Alike, alike-refused}
 use Rattle.calculus.proofs.Unjournalled.{Beside, HaltsBeside, performed-entries, two-blocks}
 use Rattle.calculus.proofs.StartsAsRun.{start-roomy}
-use Rattle.calculus.proofs.Outcomes.{haltedAt}
+use Rattle.calculus.proofs.Settled.{haltedAt}
 use Rattle.calculus.proofs.Resumed.{restored}
 
 -- no more entries than steps

@@ -7,14 +7,16 @@ use borrow.Author.Tests.{ne-eqb}
 use Rattle.lattice.specs.Order.{Label}
 use Rattle.store.specs.Result.{Result, ok, refuse, _>>=_, require, refusedAs}
 use Rattle.store.proofs.Result.{Post, Any, post-ok, post-refuse, post-all, post-map, post-at, post-refused-as, post-bind, one-value, one-refusal, not-both}
-use Rattle.programme.specs.Syntax.{Expr, literal, read, operation, Cmd, cmd, skip, assign, seq, if, while}
-use Rattle.calculus.specs.Calculus.{limits, Setting, Store, State, Stop, Judged, inRegion, admit, fetch, operate, eval, judge, authorised, reliable, permit, assignment, counted, recorded, performed, step, stopAt, attempt}
+use Rattle.programme.specs.Syntax.{Expr, Cmd, cmd, skip, assign, seq, if, while}
+use Rattle.calculus.specs.Calculus.{Limits, Setting, State, Stop, Judged, counted, recorded, performed, step, stopAt}
 use Rattle.calculus.specs.Forbidden.{Task, judging, assigning}
 use Rattle.calculus.specs.Kept.{outcome}
 use Rattle.calculus.specs.Paths.{Pause, pauseAt, rounds, play, playBody}
 use Rattle.calculus.specs.Stretched.{own}
 use Rattle.calculus.proofs.Steps.{post-choose}
-use Rattle.calculus.proofs.NextStep.{PostStop, SpentAt, play-spent, Doing}
+use Rattle.calculus.proofs.SameRules.{limitedBy, judge-same, attempt-same}
+use Rattle.calculus.proofs.PathsAside.{PostStop}
+use Rattle.calculus.proofs.NextStep.{SpentAt, play-spent, Doing}
 
 -- what is known of an answer from how it goes on without refusing
 module _ {A B : Type 0} (f : A → B) where
@@ -104,22 +106,12 @@ module _ (w : Setting) (s : State) (left : s .steps < w .limits .budget) where
         one-round _ _ at _ _ _ (w .limits .budget - s .steps) s (omega arith) (made-step (λ (j : Judged). counted s) at _ r)
         (λ j e. e) (λ j e. post-refused-as _ _ _ _ (inner c _ e)) (λ v e. record { number = refl; state = e })
 
--- What a step comes to does not depend on the budget.
-module _ (w : Setting) (budget : ℕ) where
-  abbrev pub rebudgeted : Setting
-  rebudgeted =
-      record { tables = w .tables; rules = w .rules; header = w .header; block = w .block; limits = limits budget (w .limits .entries) }
-
-  eval-rebudgeted : (s : Store) (e : Expr) → eval rebudgeted s e ≡ eval w s e
-  unfolding eval admit inRegion fetch operate
-  eval-rebudgeted s (literal v) = refl
-  eval-rebudgeted s (read e) = rw (eval-rebudgeted s e) refl
-  eval-rebudgeted s (operation o l r) = rw (eval-rebudgeted s l, eval-rebudgeted s r) refl
-
-  pub outcome-rebudgeted : (at : ℕ) (s : State) (t : Task) → outcome rebudgeted at s t ≡ outcome w at s t
-  unfolding outcome judge attempt assignment permit authorised reliable inRegion performed
-  outcome-rebudgeted at s (judging g) = rw (eval-rebudgeted (s .store) g) refl
-  outcome-rebudgeted at s (assigning branch x v) = rw (eval-rebudgeted (s .store) x, eval-rebudgeted (s .store) v) refl
+-- what a step comes to does not depend on the budget
+pub outcome-same : (l : Limits) (w : Setting) → l .entries ≡ w .limits .entries → (at : ℕ) (s : State) (t : Task)
+    → outcome (limitedBy l w) at s t ≡ outcome w at s t
+unfolding outcome performed
+outcome-same l w room at s (judging g) = rw (judge-same l w (s .store) g)
+outcome-same l w room at s (assigning branch x v) = rw (attempt-same l w room branch s x v)
 
 -- a step that is made counts
 judging-counts : (w : Setting) (at : ℕ) (s : State) (g : Expr) → Post (λ (v : State). v .steps ≡ s .steps + 1) Any (outcome w at s (judging g))

@@ -33,6 +33,10 @@ module _ {A : Type 0} where
   post-bare P Q (ok a) h = h
   post-bare P Q (refuse x) h = h
 
+-- P holds where a command ends, Q of the stop where it is stopped
+abbrev pub PostStop : (State → Type 0) → (Stop → Type 0) → Result Pause State → Type 0
+PostStop P Q r = Post P (λ (x : Pause). Q (x .stop)) r
+
 -- a step and what follows it
 bare-step : {A : Type 0} (r : Result Stop A) (k : A → Result Pause State) (k′ : A → Result Stop State)
     → ((a : A) → bare (k a) ≡ k′ a) → bare (refusedAs (pauseAt []) r >>= k) ≡ (r >>= k′)
@@ -77,7 +81,7 @@ module _ (w : Setting) where
     bare-body : (b : Body) (at : ℕ) (branch : Label) (s : State) → bare (playBody w b at branch s) ≡ execBody w b at branch s
     bare-body skip at branch s = bare-ok s
     bare-body (assign x v) at branch s = bare-step (step w at s (attempt w branch s x v)) _ _ (λ y. bare-ok _)
-    bare-body (seq cs) at branch s = bare-all cs 0 branch s
+    bare-body (seq cs) at branch s = bare-all cs _ branch s
     bare-body (if g c d) at branch s =
         bare-step (step w at s (judge w (s .store) g)) _ _ λ j.
         bare-choose (j .passes) _ _ _ _ (counted s)

@@ -11,11 +11,12 @@ use Rattle.store.specs.Sheet.{Tables}
 use Rattle.programme.specs.Syntax.{Expr, Cmd, cmd, Body, skip, assign, seq, if, while, Cmds, nil, cons}
 use Rattle.programme.specs.Sheet.{Block}
 use Rattle.calculus.specs.Rules.{RuleSet}
-use Rattle.calculus.specs.Calculus.{Limits, Setting, State, Stop, counted, performed, stopAt, step, attempt, judge, choose}
+use Rattle.calculus.specs.Calculus.{Limits, Setting, State, Stop, counted, performed, stopAt, step, judge, choose}
 use Rattle.calculus.specs.Blocks.{setting}
 use Rattle.calculus.specs.Paths.{Open, Pause, pauseAt, within, rounds, play, playBody, playAll, takeUp, takeUpBody, takeUpAll}
 use Rattle.calculus.specs.Stretches.{Halted, haltedIn, takeUpBlocks}
-use Rattle.calculus.proofs.SameRules.{limitedBy, judge-same, assignment-same, judge-not-17, attempt-not-17}
+use Rattle.calculus.proofs.BlocksAside.{take-none-body}
+use Rattle.calculus.proofs.SameRules.{limitedBy, judge-same, attempt-same, judge-not-17, attempt-not-17}
 use Rattle.calculus.proofs.Taken.{play-counts, take-counts}
 use Rattle.calculus.proofs.PlayWhile.{play-while}
 use Rattle.calculus.proofs.Onward.{onward, onward-ok, onward-17, onward-choose, onward-bind, onward-as, onward-step}
@@ -48,24 +49,10 @@ module _ (w : Setting) (at : ℕ) (branch l : Label) (g : Expr) (c d : Cmd) (x :
   unfolding takeUpBody
   into-body = refl
 
--- at its own step a command is played
-own-body : (w : Setting) (b : Body) (at : ℕ) (branch : Label) (x : Stop) → resumedBody w b at branch (pauseAt [] x) ≡ playBody w b at branch (x .state)
-unfolding takeUpBody
-own-body w skip at branch x = refl
-own-body w (assign t v) at branch x = refl
-own-body w (seq cs) at branch x = refl
-own-body w (if g c d) at branch x = refl
-own-body w (while g c) at branch x = refl
-
 -- one setting within limits of which the second has the larger budget and the same journal
 module _ (w : Setting) (l′ : Limits) (more : w .limits .budget ≤ l′ .budget) (room : l′ .entries ≡ w .limits .entries) where
   abbrev w′ : Setting
   w′ = limitedBy l′ w
-
-  -- an assignment is judged alike within both
-  attempt-same : (branch : Label) (s : State) (t v : Expr) → attempt w′ branch s t v ≡ attempt w branch s t v
-  unfolding attempt
-  attempt-same branch s t v = rw (assignment-same l′ w branch (s .store) t v, room)
 
   -- k takes the commands of a sequence up, from the i-th on
   record Among (k : Pause → Result Pause State) (cs : Cmds) (i : ℕ) (branch : Label) : Type 0 where
@@ -96,11 +83,11 @@ module _ (w : Setting) (l′ : Limits) (more : w .limits .budget ≤ l′ .budge
       (λ l t. refusedAs (within 0 (meet (w .tables .order) branch l)) (play w c (meet (w .tables .order) branch l) t)) at n s)
   unfolding rounds counted
   rounds-onward g c at branch body zero s h =
-      sym (onward-17 stopOf _ (pauseAt [] (stopAt at s 17)) refl ∙ own-body w′ (while g c) at branch (stopAt at s 17))
+      sym (onward-17 stopOf _ (pauseAt [] (stopAt at s 17)) refl ∙ take-none-body w′ (while g c) at branch s)
   rounds-onward g c at branch body (suc n) s h =
       play-while w′ g c at branch s (omega arith)
       ∙ onward-step w w′ more at s h _ _ (judge-same l′ w (s .store) g) (judge-not-17 w (s .store) g) _ _ (resumedBody w′ (while g c) at branch)
-      (own-body w′ (while g c) at branch (stopAt at s 17) ∙ play-while w′ g c at branch s (omega arith)) λ l j.
+      (take-none-body w′ (while g c) at branch s ∙ play-while w′ g c at branch s (omega arith)) λ l j.
       onward-choose stopOf _ (j .passes) _ _ _ _ (counted s)
       (onward-bind stopOf stopOf _ (λ _. refl) _ _ _ _ _ _ _ _ (body (meet (w .tables .order) branch (j .label)) (counted s) (omega arith))
       (λ x. into-body w′ at branch _ g c c x)
@@ -119,12 +106,12 @@ module _ (w : Setting) (l′ : Limits) (more : w .limits .budget ≤ l′ .budge
         → playBody w′ b at branch s ≡ onward stopOf (resumedBody w′ b at branch) (playBody w b at branch s)
     plays-onward skip at branch s h = onward-ok stopOf _ s
     plays-onward (assign t v) at branch s h =
-        onward-step w w′ more at s h _ _ (attempt-same branch s t v) (attempt-not-17 w branch s t v) _ _ (resumedBody w′ (assign t v) at branch)
-        (own-body w′ (assign t v) at branch (stopAt at s 17)) (λ l x. onward-ok stopOf _ (performed w at x s))
+        onward-step w w′ more at s h _ _ (attempt-same l′ w room branch s t v) (attempt-not-17 w branch s t v) _ _ (resumedBody w′ (assign t v) at branch)
+        (take-none-body w′ (assign t v) at branch s) (λ l x. onward-ok stopOf _ (performed w at x s))
     plays-onward (seq cs) at branch s h = all-onward cs 0 branch (resumedBody w′ (seq cs) at branch) (among-all cs at branch) s h
     plays-onward (if g c d) at branch s h =
         onward-step w w′ more at s h _ _ (judge-same l′ w (s .store) g) (judge-not-17 w (s .store) g) _ _ (resumedBody w′ (if g c d) at branch)
-        (own-body w′ (if g c d) at branch (stopAt at s 17)) λ l j.
+        (take-none-body w′ (if g c d) at branch s) λ l j.
         onward-choose stopOf _ (j .passes) _ _ _ _ (counted s)
         (onward-as stopOf stopOf _ (λ _. refl) _ _ _ _ (play-onward c (meet (w .tables .order) branch (j .label)) (counted s) (omega arith)) (λ x. into-then w′ at branch _ g c d x))
         (onward-as stopOf stopOf _ (λ _. refl) _ _ _ _ (play-onward d (meet (w .tables .order) branch (j .label)) (counted s) (omega arith)) (λ x. into-else w′ at branch _ g c d x))

@@ -26,6 +26,15 @@ use Rattle.calculus.proofs.Endorsed.{endorsed-worked, floor-worked, end
 use Rattle.calculus.proofs.Unrelated.{unrelated-protected}
 use Rattle.calculus.proofs.Floors.{judged-by-meet, floors-ignored}
 use Rattle.calculus.proofs.Vectors.{vectors-hold, descents-hold, faults-hold, misreadings-hold, operations-hold, floors-hold, journals-hold}
+use Rattle.calculus.proofs.PathsAside.{paths-aside}
+use Rattle.calculus.proofs.StartsAsRun.{starts-as-run}
+use Rattle.calculus.proofs.Stretched.{never-paused}
+use Rattle.calculus.proofs.NoneFull.{none-full}
+use Rattle.calculus.proofs.Resumed.{written-good}
+use Rattle.calculus.proofs.RuleOfNext.{rule-of-next}
+use Rattle.calculus.proofs.InStretches.{isolated-in-stretches}
+use Rattle.calculus.proofs.Forged.{loose-worked, loose-not-isolated}
+use Rattle.calculus.proofs.StretchesWorked.{stretches-hold, checkpoints-hold}
 
 pub promises : Promises
 promises =
@@ -85,4 +94,15 @@ promises =
       protected-entries-agree = protected-entries-agree;
       protected-tested = protected-tested;
       journals-hold = journals-hold;
+      paths-aside = paths-aside;
+      starts-as-run = starts-as-run;
+      never-paused = never-paused;
+      none-full = none-full;
+      written-good = written-good;
+      rule-of-next = rule-of-next;
+      isolated-in-stretches = isolated-in-stretches;
+      loose-worked = loose-worked;
+      loose-not-isolated = loose-not-isolated;
+      stretches-hold = stretches-hold;
+      checkpoints-hold = checkpoints-hold;
     }

@@ -16,21 +16,21 @@ use Rattle.store.specs.Result.{Result, ok, require}
 use Rattle.store.specs.Bytes.{Bytes}
 use Rattle.store.specs.Sheet.{Tables, Opening, mostSlots, storeSheet, slotsBytes}
 use Rattle.store.proofs.Result.{Post, post-map, post-refused, one-value}
-use Rattle.store.proofs.InTurn.{require-ok}
 use Rattle.store.proofs.Numbers.{number-lt}
 use Rattle.programme.specs.Sheet.{Block, programmeSheet}
 use Rattle.calculus.specs.Rules.{RuleSet}
 use Rattle.calculus.specs.Calculus.{Limits, Store}
 use Rattle.calculus.specs.Blocks.{mostBudget, start}
 use Rattle.calculus.specs.Paths.{Open}
-use Rattle.calculus.specs.Stretches.{Position, standing, mostOpen, From, opening, checkpoint, Stretch, stretch, stepsWidth, pauseSheet, stepsIn, openIn, blockIn, pathIn, storeIn, outputGood, pathGood, checkpointGood, takeUpBlocks, Ended, limitsAt, positionOf, runStretch, outputOf, pauseOf, answer, output, pause}
+use Rattle.calculus.specs.Stretches.{Position, standing, mostOpen, From, opening, checkpoint, Stretch, stretch, stepsWidth, pauseSheet, stepsIn, openIn, blockIn, pathIn, outputGood, pathGood, checkpointGood, takeUpBlocks, Ended, limitsAt, positionOf, runStretch, outputOf, pauseOf, answer, output, pause}
 use Rattle.calculus.specs.Stretched.{Chain, begun, carried, BytesIn, WrittenGood}
 use Rattle.calculus.proofs.Checkpoints.{StateGood, TakenIn, leadsIn, GoesOn, PausedAt}
 use Rattle.calculus.proofs.Lasting.{opening-of, opened-state}
 use Rattle.calculus.proofs.Halting.{follows, placed-from, blocks-halt}
 use Rattle.calculus.proofs.PauseSheets.{each-map, bytes-slots, sheet-steps, sheet-open, sheet-block, sheet-path, sheet-unused, sheet-bytes}
 use Rattle.calculus.proofs.Outputs.{store-back, output-good, taken-state}
-use Rattle.calculus.proofs.Outcomes.{haltedAt, Pauses, pausedBy, stretch-pauses, not-19}
+use Rattle.calculus.proofs.Settled.{haltedAt}
+use Rattle.calculus.proofs.Outcomes.{placeIn, taken-up, Pauses, pausedBy, stretch-pauses, not-19}
 
 -- a position without its state's journal, as a checkpoint holds it
 abbrev pub restored : Position → Position
@@ -114,8 +114,7 @@ module _ {store programme : List ℕ} {o : Opening} {blocks : List Block} (t : T
 
   -- a checkpoint of bytes that is taken in is such a position
   module _ (out sheet : List ℕ) (bytes : Bytes out) (bytes′ : Bytes sheet) where
-    taken-at : checkpointGood (o .tables) blocks out sheet ≡ true
-        → PausedAt o blocks (standing (blockIn sheet) (pathIn sheet) (record { store = storeIn m out; steps = stepsIn sheet; journal = [] }))
+    taken-at : checkpointGood (o .tables) blocks out sheet ≡ true → PausedAt o blocks (placeIn m out sheet)
     unfolding checkpointGood
     taken-at e =
         record {
@@ -124,8 +123,7 @@ module _ {store programme : List ℕ} {o : Opening} {blocks : List Block} (t : T
         }
 
     pub taken-good : (x : Position) → positionOf o blocks (checkpoint out sheet) ≡ ok x → PausedAt o blocks x
-    unfolding positionOf
-    taken-good x e = let z = require-ok _ _ _ x e in rw (one-value _ _ x refl (z .1)) at (taken-at (z .0))
+    taken-good x e = let z = taken-up o blocks out sheet x e in rw (z .1) at (taken-at (z .0))
 
   -- a position that any stretch goes on from
   pub from-good : (from : From) → BytesIn from → (x : Position) → positionOf o blocks from ≡ ok x → GoesOn o blocks x

@@ -1,41 +1,34 @@
 -- The step that is next where a stretch goes on is judged by the rule of that stretch. Assumes nothing.
-use Prim.Native.Nat.{ℕ, _+_, _<_, max}
-use mathlib.Core.Path.{_≡_, refl, sym, ap, subst, _∙_}
-use mathlib.Core.Bool.{Bool, true, false}
+use Prim.Native.Nat.{ℕ, _+_, _<_}
+use mathlib.Core.Path.{_≡_, refl, ap, subst, _∙_}
+use mathlib.Core.Bool.{true}
 use mathlib.Core.List.{List, [], _∷_}
 use native.Mathlib.Omega.{arith}
-use lib.Dec.{eqb}
 use lib.ListN.{length, drop}
-use borrow.Author.Tests.{le-leb, eqb-true, eq-eqb}
-use Rattle.lattice.specs.Order.{Label, top}
+use borrow.Author.Tests.{le-leb}
+use Rattle.lattice.specs.Order.{top}
 use Rattle.lattice.proofs.Tests.{and-l, and-r}
 use Rattle.store.specs.declared.Answer.{Answer}
 use Rattle.store.specs.Result.{Result, ok, refuse, _>>=_, require, refusedAs, says}
 use Rattle.store.specs.Sheet.{Tables, slotsBytes}
-use Rattle.store.proofs.Result.{Post, post-ok, post-map, post-refused-as, post-bind, one-value, not-both}
-use Rattle.programme.specs.Syntax.{Cmd, cmd, skip, assign, seq, if, while}
+use Rattle.store.proofs.Result.{Post, post-ok, post-map, post-refused-as, post-bind}
 use Rattle.programme.specs.Sheet.{Block}
 use Rattle.calculus.specs.Rules.{RuleSet}
 use Rattle.calculus.specs.Calculus.{Limits, Setting, State, Stop, stopAt}
 use Rattle.calculus.specs.Forbidden.{Task}
 use Rattle.calculus.specs.Kept.{outcome}
 use Rattle.calculus.specs.Blocks.{haltIn, haltAnswer, setting, mostBudget}
-use Rattle.calculus.specs.Paths.{Open, play, takeUp, takeUpBody, leads}
-use Rattle.calculus.specs.Stretches.{Position, standing, From, checkpoint, Stretch, blockIn, pathIn, pathGood, checkpointGood, Halted, takeUpBlocks, Ended, paused, settled, endOf, limitsAt, runFrom, fitting, positionOf, stretchOpened, stretchUnder, runStretch, answerOf, outputOf, answer, output}
+use Rattle.calculus.specs.Paths.{Open, takeUp, leads}
+use Rattle.calculus.specs.Stretches.{Position, From, checkpoint, Stretch, blockIn, pathIn, pathGood, checkpointGood, Halted, takeUpBlocks, Ended, endOf, limitsAt, runFrom, fitting, stretchOpened, stretchUnder, runStretch, answerOf, outputOf, answer, output}
 use Rattle.calculus.specs.Stretched.{due, tries, GoesFrom, judged, withBudget, RuleOfNext}
-use Rattle.calculus.proofs.NextStep.{PostStop, SpentAt, play-spent, Doing, leads-due, takes-up}
-use Rattle.calculus.proofs.OwnStep.{own-forbidden, own-made, outcome-rebudgeted, outcome-counts}
+use Rattle.calculus.proofs.PathsAside.{PostStop}
+use Rattle.calculus.proofs.BlocksAside.{take-up-none}
+use Rattle.calculus.proofs.Settled.{settled-17, settled-answer}
+use Rattle.calculus.proofs.Outcomes.{taken-up}
+use Rattle.calculus.proofs.NextStep.{SpentAt, play-spent, Doing, leads-due, takes-up}
+use Rattle.calculus.proofs.OwnStep.{own-forbidden, own-made, outcome-same, outcome-counts}
 
 -- Blocks
-
--- with nothing open, taking a command up is playing it
-take-up-here : (w : Setting) (c : Cmd) (branch : Label) (s : State) → takeUp w c branch [] s ≡ play w c branch s
-unfolding takeUp takeUpBody play
-take-up-here w (cmd at skip) branch s = refl
-take-up-here w (cmd at (assign x v)) branch s = refl
-take-up-here w (cmd at (seq cs)) branch s = refl
-take-up-here w (cmd at (if g c d)) branch s = refl
-take-up-here w (cmd at (while g c)) branch s = refl
 
 -- with no steps left blocks take none
 blocks-spent : (w : Tables) (rules : RuleSet) (l : Limits) (i : ℕ) (bs : List Block) (s : State) → s .steps ≡ l .budget
@@ -44,7 +37,7 @@ unfolding takeUpBlocks
 blocks-spent w rules l i [] s h = post-ok _ _ _ refl
 blocks-spent w rules l i (b ∷ bs) s h =
     let x : PostStop (λ t. t ≡ s) (SpentAt s) (takeUp (setting w rules l i b) (b .command) (top (w .order)) [] s) =
-    rw (take-up-here (setting w rules l i b) (b .command) (top (w .order)) s) (play-spent (setting w rules l i b) (b .command) (top (w .order)) s h) in
+    rw (take-up-none (setting w rules l i b) (b .command) (top (w .order)) s) (play-spent (setting w rules l i b) (b .command) (top (w .order)) s h) in
     post-bind _ _ _ _ _ (post-refused-as _ _ _ _ x) (λ t e. rw e (blocks-spent w rules l (i + 1) bs s h))
 
 -- The first of some blocks is taken up along a path that leads to a step.
@@ -76,38 +69,21 @@ module _ (w : Tables) (rules : RuleSet) (l : Limits) (i : ℕ) (b : Block) (bs :
 
 -- Ends
 
--- a run that is stopped answers where it is stopped, whatever the number
-stopped-answer : (slots : ℕ) (h : Halted) → answerOf (settled slots h) ≡ haltAnswer (haltIn (h .block) (h .pause .stop))
-unfolding settled answerOf haltAnswer
-stopped-answer slots h = by-number (eqb (h .pause .stop .number) 17) (λ e. eqb-true (h .pause .stop .number) 17 e)
-  where
-    by-number : (b : Bool) → (b ≡ true → h .pause .stop .number ≡ 17)
-        → answerOf (elim b [
-          | true ↦ ok (paused slots (h .pause .stop .offset) (standing (h .block) (h .pause .path) (h .pause .stop .state)))
-          | false ↦ refuse (haltAnswer (haltIn (h .block) (h .pause .stop)))
-        ]) ≡ haltAnswer (haltIn (h .block) (h .pause .stop))
-    by-number true e = ap (λ (n : ℕ). says n (h .block) (h .pause .stop .offset) (h .pause .stop .state .steps)) (sym (e refl))
-    by-number false e = refl
-
+-- a run that is stopped answers where it is stopped
 answer-forbidden : (blocks slots i offset number : ℕ) (s : State) (r : Result Halted State)
     → Post (λ _. ⊥) (λ (h : Halted). (h .block ≡ i) × (h .pause .stop ≡ stopAt offset s number)) r
     → answerOf (endOf blocks slots r) ≡ says number i offset (s .steps)
 unfolding Post endOf haltAnswer
 answer-forbidden blocks slots i offset number s (ok t) h = absurd h
 answer-forbidden blocks slots i offset number s (refuse x) h =
-    stopped-answer slots x ∙ ap (λ (j : ℕ). haltAnswer (haltIn j (x .pause .stop))) (h .0) ∙ ap (λ (e : Stop). haltAnswer (haltIn i e)) (h .1)
+    settled-answer slots x ∙ ap (λ (j : ℕ). haltAnswer (haltIn j (x .pause .stop))) (h .0) ∙ ap (λ (e : Stop). haltAnswer (haltIn i e)) (h .1)
 
 -- a run out of budget has paused
-pub settled-spent : (slots : ℕ) (h : Halted) → h .pause .stop .number ≡ 17
-    → settled slots h ≡ ok (paused slots (h .pause .stop .offset) (standing (h .block) (h .pause .path) (h .pause .stop .state)))
-unfolding settled
-settled-spent slots h e = rw (eq-eqb (h .pause .stop .number) 17 e, settled) refl
-
 ends-made : (blocks slots : ℕ) (u : State) (r : Result Halted State) → Post (λ t. t ≡ u) (λ (h : Halted). SpentAt u (h .pause .stop)) r
     → (answerOf (endOf blocks slots r) .steps ≡ u .steps) × ((old : List ℕ) → outputOf (endOf blocks slots r) old ≡ slotsBytes (u .store) 0 slots)
 unfolding Post endOf answerOf outputOf
 ends-made blocks slots u (ok t) h = rw h (refl, λ old. refl)
-ends-made blocks slots u (refuse x) h = rw (settled-spent slots x (h .number)) (ap (λ (t : State). t .steps) (h .state), λ old. ap (λ (t : State). slotsBytes (t .store) 0 slots) (h .state))
+ends-made blocks slots u (refuse x) h = rw (settled-17 slots x (h .number)) (ap (λ (t : State). t .steps) (h .state), λ old. ap (λ (t : State). slotsBytes (t .store) 0 slots) (h .state))
 
 -- Stretches
 
@@ -115,11 +91,6 @@ ends-made blocks slots u (refuse x) h = rw (settled-spent slots x (h .number)) (
 goes : (from : From) (c : Stretch) (g : GoesFrom from c) → runStretch from c ≡ runFrom (g .rules) (c .budget) (g .start) (g .blocks) (g .place)
 unfolding runStretch stretchUnder stretchOpened require refusedAs _>>=_
 goes from c g = rw (g .ruled, le-leb (c .budget) mostBudget (g .modest), g .opens, g .taken, g .fits, g .good) refl
-
-pub required : {E A : Type 0} (b : Bool) (e : E) (x y : A) → require b e (ok x) ≡ ok y → (b ≡ true) × (x ≡ y)
-unfolding require
-required true e x y h = (refl, one-value (ok x) x y refl h)
-required false e x y h = absurd (not-both (refuse e) y e h refl)
 
 -- a checkpoint that is good leads to a step of the block that is next
 path-leads : (w : Tables) (bs : List Block) (b : Block) (rest : List Block) (sheet : List ℕ) → pathGood w bs sheet ≡ true → bs ≡ b ∷ rest
@@ -129,9 +100,9 @@ path-leads w bs b rest sheet h e = rw e at h
 
 module _ (out sheet : List ℕ) (c : Stretch) (g : GoesFrom (checkpoint out sheet) c) where
   leads-there : leads (g .start .tables .order) (g .block .command) (top (g .start .tables .order)) (g .place .path) ≡ true
-  unfolding positionOf checkpointGood
+  unfolding checkpointGood
   leads-there =
-      let q = required _ _ _ _ (g .good) in
+      let q = taken-up (g .start) (g .blocks) out sheet (g .place) (g .good) in
       let at-block : blockIn sheet ≡ g .place .block = ap (λ (x : Position). x .block) (q .1) in
       let along : pathIn sheet ≡ g .place .path = ap (λ (x : Position). x .path) (q .1) in
       subst (λ (p : List Open). leads (g .start .tables .order) (g .block .command) (top (g .start .tables .order)) p ≡ true) along
@@ -183,7 +154,7 @@ module _ (out sheet : List ℕ) (c : Stretch) (g : GoesFrom (checkpoint out shee
         let l = limitsAt more (g .place) in
         let w = setting (g .start .tables) (g .rules) (limitsAt (c .budget) (g .place)) (g .place .block) (g .block) in
         let e′ : outcome (setting (g .start .tables) (g .rules) l (g .place .block) (g .block)) offset (g .place .state) task ≡ ok u =
-        outcome-rebudgeted w (max more (g .place .state .steps)) offset (g .place .state) task ∙ e in
+        outcome-same l w refl offset (g .place .state) task ∙ e in
         let n = outcome-counts w offset (g .place .state) task u e in
         let x =
         ends-made (length (g .blocks)) (g .start .tables .slots) u

@@ -1,12 +1,12 @@
 -- From a start, the entry point that pauses answers and writes what `run` does with a journal long enough, but for what 17 writes. Assumes nothing.
 use Prim.Native.Nat.{ℕ, _*_, _≤_, max}
-use mathlib.Core.Path.{_≡_, refl, sym, ap, _∙_}
+use mathlib.Core.Path.{_≡_, refl, ap, _∙_}
 use mathlib.Core.Bool.{Bool, true, false}
 use mathlib.Core.List.{List, []}
 use native.Mathlib.Omega.{arith}
 use lib.Dec.{eqb}
 use lib.ListN.{length}
-use borrow.Author.Tests.{eqb-true, eqb-false, eq-eqb, ne-eqb, leb-true}
+use borrow.Author.Tests.{eqb-true, eqb-false, eq-eqb, leb-true}
 use Rattle.lattice.specs.Tests.{_and_}
 use Rattle.store.specs.declared.Answer.{Answer}
 use Rattle.store.specs.Result.{Result, ok, refuse, _>>=_, require, refusedAs, says}
@@ -18,9 +18,10 @@ use Rattle.calculus.specs.Calculus.{Limits, limits, State}
 use Rattle.calculus.specs.Blocks.{haltAnswer, mostBudget, start}
 use Rattle.calculus.specs.Run.{call, Finished, runProgramme, runOpened, runUnder}
 use Rattle.calculus.specs.Run as run
-use Rattle.calculus.specs.Stretches.{standing, opening, Stretch, Halted, pauseWidth, Ended, paused, settled, endOf, limitsAt, runFrom, fitting, positionOf, stretchOpened, stretchUnder, runStretch, answerOf, outputOf}
+use Rattle.calculus.specs.Stretches.{opening, Stretch, Halted, pauseWidth, Ended, settled, endOf, limitsAt, runFrom, fitting, positionOf, stretchOpened, stretchUnder, runStretch, answerOf, outputOf}
 use Rattle.calculus.specs.Stretched.{StartsAsRun}
 use Rattle.calculus.proofs.BlocksAside.{haltOf, blocks-aside}
+use Rattle.calculus.proofs.Settled.{settled-17, settled-else, settled-answer}
 use Rattle.calculus.proofs.Alike.{Alike}
 use Rattle.calculus.proofs.Unjournalled.{Roomy, Beside, HaltsBeside, two-blocks}
 
@@ -45,16 +46,6 @@ unfolding _>>=_
 agrees-bind (ok a) k k′ h = h a
 agrees-bind (refuse a) k k′ h = agrees-refuse a
 
--- out of budget, and refused otherwise
-pub settled-17 : (slots : ℕ) (h : Halted) → h .pause .stop .number ≡ 17
-    → settled slots h ≡ ok (paused slots (h .pause .stop .offset) (standing (h .block) (h .pause .path) (h .pause .stop .state)))
-unfolding settled
-settled-17 slots h e = rw (settled, eq-eqb (h .pause .stop .number) 17 e)
-
-pub settled-else : (slots : ℕ) (h : Halted) → (h .pause .stop .number ≡ 17 → ⊥) → settled slots h ≡ refuse (haltAnswer (haltOf h))
-unfolding settled
-settled-else slots h e = rw (settled, ne-eqb (h .pause .stop .number) 17 e)
-
 -- two halts that differ in their journals answer the same
 pub halts-alike : (budget entries entries′ : ℕ) (h h′ : Halted) → HaltsBeside budget entries entries′ h h′ → haltAnswer (haltOf h) ≡ haltAnswer (haltOf h′)
 unfolding haltAnswer
@@ -64,19 +55,15 @@ halts-alike budget entries entries′ h h′ z =
 -- and so they agree
 agrees-halt : (slots budget entries entries′ : ℕ) (h h′ : Halted) → HaltsBeside budget entries entries′ h h′
     → Agrees (settled slots h) (refuse (haltAnswer (haltOf h′)))
-unfolding answerOf run.answerOf outputOf run.outputOf haltAnswer
-agrees-halt slots budget entries entries′ h h′ z = go (eqb (h .pause .stop .number) 17) refl
+unfolding answerOf run.answerOf outputOf run.outputOf
+agrees-halt slots budget entries entries′ h h′ z =
+    record { answered = settled-answer slots h ∙ halts-alike budget entries entries′ h h′ z; written = writes (eqb (h .pause .stop .number) 17) refl }
   where
-    says-17 : h .pause .stop .number ≡ 17 → says 17 (h .block) (h .pause .stop .offset) (h .pause .stop .state .steps) ≡ haltAnswer (haltOf h)
-    says-17 e = ap (λ (n : ℕ). says n (h .block) (h .pause .stop .offset) (h .pause .stop .state .steps)) (sym e)
-
-    go : (b : Bool) → eqb (h .pause .stop .number) 17 ≡ b → Agrees (settled slots h) (refuse (haltAnswer (haltOf h′)))
-    go true q =
-        let e = eqb-true (h .pause .stop .number) 17 q in
-        rw (settled-17 slots h e) (record { answered = says-17 e ∙ halts-alike budget entries entries′ h h′ z; written = λ old d. absurd (d refl) })
-    go false q =
-        rw (settled-else slots h (eqb-false (h .pause .stop .number) 17 q))
-        (record { answered = halts-alike budget entries entries′ h h′ z; written = λ old _. refl })
+    writes : (b : Bool) → eqb (h .pause .stop .number) 17 ≡ b → (old : List ℕ) → (answerOf (settled slots h) .number ≡ 17 → ⊥)
+        → outputOf (settled slots h) old ≡ run.outputOf (refuse (haltAnswer (haltOf h′))) old
+    writes true q old d =
+        let e = settled-17 slots h (eqb-true (h .pause .stop .number) 17 q) in absurd (d (ap (λ (r : Result Answer Ended). answerOf r .number) e))
+    writes false q old d = ap (λ (r : Result Answer Ended). outputOf r old) (settled-else slots h (eqb-false (h .pause .stop .number) 17 q))
 
 -- what two runs that are alike end in
 agrees-end : (blocks slots budget entries entries′ : ℕ) (r r′ : Result Halted State)

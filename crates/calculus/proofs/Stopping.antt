@@ -24,7 +24,7 @@ use Rattle.calculus.proofs.Refusals.{Refusing, judges, assigns}
 use Rattle.calculus.proofs.Checkpoints.{Fits, StateGood}
 use Rattle.calculus.proofs.Lasting.{Puts, assigns-fit, counted-good, performed-good}
 use Rattle.calculus.proofs.Readable.{Fine, FineBody, FineAll}
-use Rattle.calculus.proofs.Leading.{Through, through}
+use Rattle.calculus.proofs.NextStep.{Through, through}
 
 -- An entry more
 
@@ -180,7 +180,7 @@ module _ (w : Setting) (o : Ordered (w .tables)) (slots : w .tables .slots ≤ m
 
   -- an if, by the number of the child
   part-runs : (g : Expr) (c e : Cmd) (at : ℕ) (b : Label) (x : Open) (p : List Open) (F G : State → Result Pause State) (s : State) (k : ℕ)
-      → Through t b x p (childOf (if g c e) k)
+      → Through t b (x .label) p (childOf (if g c e) k)
       → (leads t c (x .label) p ≡ true → x .label < t .n → Runs c (x .label) (F s))
       → (leads t e (x .label) p ≡ true → x .label < t .n → Runs e (x .label) (G s))
       → Runs (cmd at (if g c e)) b (choose (eqb k 0) (λ u. refusedAs (within 0 (x .label)) (F u)) (λ u. refusedAs (within 1 (x .label)) (G u)) s)
@@ -193,7 +193,7 @@ module _ (w : Setting) (o : Ordered (w .tables)) (slots : w .tables .slots ≤ m
 
   -- a while
   round-runs : (g : Expr) (c : Cmd) (at : ℕ) (b : Label) (x : Open) (p : List Open) (r : Result Pause State) (k : ℕ)
-      → Through t b x p (childOf (while g c) k) → (leads t c (x .label) p ≡ true → x .label < t .n → Runs c (x .label) r)
+      → Through t b (x .label) p (childOf (while g c) k) → (leads t c (x .label) p ≡ true → x .label < t .n → Runs c (x .label) r)
       → Runs (cmd at (while g c)) b (refusedAs (within 0 (x .label)) r)
   unfolding Through child childOf atOrBelow
   round-runs g c at b x p r zero z f =
@@ -225,7 +225,7 @@ module _ (w : Setting) (o : Ordered (w .tables)) (slots : w .tables .slots ≤ m
         (λ u q. body-runs (while g c) d at b u h f q)
 
     taken-all : (at : ℕ) (all : Cmds) (i : ℕ) (cs : Cmds) (k d : ℕ) (b : Label) (x : Open) (p : List Open) (s : State) → b < t .n → FineAll m (d + 1) cs
-        → Running s → Tail all i cs → Through t b x p (childIn cs k) → Runs (cmd at (seq all)) b (takeUpAll w cs i k b p s)
+        → Running s → Tail all i cs → Through t b (x .label) p (childIn cs k) → Runs (cmd at (seq all)) b (takeUpAll w cs i k b p s)
     taken-all at all i nil k d b x p s h f r l z = absurd z
     taken-all at all i (cons c cs) zero d b x p s h f r l z =
         post-bind _ _ _ _ _

@@ -13,19 +13,15 @@ use Rattle.programme.specs.Sheet.{Block}
 use Rattle.calculus.specs.Rules.{RuleSet}
 use Rattle.calculus.specs.Calculus.{Limits, Setting, State, Stop, counted, performed, stopAt, step, attempt, judge}
 use Rattle.calculus.specs.Blocks.{setting}
-use Rattle.calculus.specs.Paths.{Open, Pause, pauseAt, within, rounds, play, playBody, playAll, takeUp, takeUpBody, takeUpAll}
+use Rattle.calculus.specs.Paths.{Open, pauseAt, within, rounds, play, playBody, playAll, takeUp, takeUpBody, takeUpAll}
 use Rattle.calculus.specs.Stretches.{Halted, takeUpBlocks}
 use Rattle.calculus.proofs.Steps.{post-choose, Counted, StopCounted, tick, tick-write, exec-counts}
 use Rattle.calculus.proofs.SameRules.{judge-not-17, attempt-not-17}
-use Rattle.calculus.proofs.PathsAside.{post-bare, paths-aside}
-
--- P holds where a command ends, Q of the stop where it is stopped
-abbrev pub Leaves : (State → Type 0) → (Stop → Type 0) → Result Pause State → Type 0
-Leaves P Q r = Post P (λ (x : Pause). Q (x .stop)) r
+use Rattle.calculus.proofs.PathsAside.{post-bare, PostStop, paths-aside}
 
 -- steps only grow and never pass the budget, as in `exec`
 pub play-counts : (w : Setting) (from : ℕ) (c : Cmd) (branch : Label) (s : State) → Counted (w .limits .budget) from s
-    → Leaves (Counted (w .limits .budget) from) (StopCounted (w .limits .budget) from) (play w c branch s)
+    → PostStop (Counted (w .limits .budget) from) (StopCounted (w .limits .budget) from) (play w c branch s)
 play-counts w from c branch s h = post-bare _ _ _ (rw (paths-aside w c branch s) (exec-counts w from c branch s h))
 
 -- a step, by what it is judged by where budget is left, and by 17 where none is
@@ -47,9 +43,9 @@ pub record Keeping (w : Setting) (I : State → Type 0) (Q : Stop → Type 0) : 
 
 module _ {w : Setting} {I : State → Type 0} {Q : Stop → Type 0} (k : Keeping w I Q) where
   -- the rounds of a while, with any fuel that covers the steps left
-  rounds-keep : (g : Expr) (c : Cmd) (at : ℕ) (branch : Label) → ((l : Label) (t : State) → I t → Leaves I Q (play w c l t))
+  rounds-keep : (g : Expr) (c : Cmd) (at : ℕ) (branch : Label) → ((l : Label) (t : State) → I t → PostStop I Q (play w c l t))
       → (n : ℕ) (s : State) → I s → w .limits .budget ≤ n + s .steps
-      → Leaves I Q (rounds (λ t. refusedAs (pauseAt []) (step w at t (judge w (t .store) g)))
+      → PostStop I Q (rounds (λ t. refusedAs (pauseAt []) (step w at t (judge w (t .store) g)))
       (λ l t. refusedAs (within 0 (meet (w .tables .order) branch l)) (play w c (meet (w .tables .order) branch l) t)) at n s)
   unfolding rounds counted
   rounds-keep g c at branch body zero s i f = post-refuse _ _ _ (k .spent at s i (omega (arith, k .bounded s i)))
@@ -68,20 +64,20 @@ module _ {w : Setting} {I : State → Type 0} {Q : Stop → Type 0} (k : Keeping
   mutual
     unfolding play playBody playAll
 
-    play-keeps : (c : Cmd) (branch : Label) (s : State) → I s → Leaves I Q (play w c branch s)
+    play-keeps : (c : Cmd) (branch : Label) (s : State) → I s → PostStop I Q (play w c branch s)
     play-keeps (cmd at b) branch s i = plays-keep b at branch s i
 
-    plays-keep : (b : Body) (at : ℕ) (branch : Label) (s : State) → I s → Leaves I Q (playBody w b at branch s)
+    plays-keep : (b : Body) (at : ℕ) (branch : Label) (s : State) → I s → PostStop I Q (playBody w b at branch s)
     plays-keep skip at branch s i = post-ok _ _ _ i
     plays-keep (assign t v) at branch s i = post-bind _ _ _ _ _ (post-refused-as _ _ _ _ (k .writes at branch s t v i)) (λ x q. post-ok _ _ _ q)
-    plays-keep (seq cs) at branch s i = all-keep cs 0 branch s i
+    plays-keep (seq cs) at branch s i = all-keep cs _ branch s i
     plays-keep (if g c d) at branch s i =
         post-bind _ _ _ _ _ (post-refused-as _ _ _ _ (k .guards at s g i)) λ j q.
         post-choose _ _ _ _ _ _ (λ _. post-refused-as _ _ _ _ (play-keeps c _ (counted s) q)) (λ _. post-refused-as _ _ _ _ (play-keeps d _ (counted s) q))
     plays-keep (while g c) at branch s i =
         rounds-keep g c at branch (λ l t q. play-keeps c l t q) (w .limits .budget - s .steps) s i (omega arith)
 
-    all-keep : (cs : Cmds) (i : ℕ) (branch : Label) (s : State) → I s → Leaves I Q (playAll w cs i branch s)
+    all-keep : (cs : Cmds) (i : ℕ) (branch : Label) (s : State) → I s → PostStop I Q (playAll w cs i branch s)
     all-keep nil i branch s q = post-ok _ _ _ q
     all-keep (cons c cs) i branch s q = post-bind _ _ _ _ _ (post-refused-as _ _ _ _ (play-keeps c branch s q)) (λ t z. all-keep cs (i + 1) branch t z)
 
@@ -89,10 +85,10 @@ module _ {w : Setting} {I : State → Type 0} {Q : Stop → Type 0} (k : Keeping
   mutual
     unfolding takeUp takeUpBody takeUpAll
 
-    pub take-keeps : (c : Cmd) (branch : Label) (p : List Open) (s : State) → I s → Leaves I Q (takeUp w c branch p s)
+    pub take-keeps : (c : Cmd) (branch : Label) (p : List Open) (s : State) → I s → PostStop I Q (takeUp w c branch p s)
     take-keeps (cmd at b) branch p s i = takes-keep b at branch p s i
 
-    takes-keep : (b : Body) (at : ℕ) (branch : Label) (p : List Open) (s : State) → I s → Leaves I Q (takeUpBody w b at branch p s)
+    takes-keep : (b : Body) (at : ℕ) (branch : Label) (p : List Open) (s : State) → I s → PostStop I Q (takeUpBody w b at branch p s)
     takes-keep skip at branch p s i = plays-keep skip at branch s i
     takes-keep (assign t v) at branch p s i = plays-keep (assign t v) at branch s i
     takes-keep (seq cs) at branch [] s i = plays-keep (seq cs) at branch s i
@@ -102,9 +98,9 @@ module _ {w : Setting} {I : State → Type 0} {Q : Stop → Type 0} (k : Keeping
         post-choose _ _ _ _ _ _ (λ _. post-refused-as _ _ _ _ (take-keeps c (o .label) p s i)) (λ _. post-refused-as _ _ _ _ (take-keeps d (o .label) p s i))
     takes-keep (while g c) at branch [] s i = plays-keep (while g c) at branch s i
     takes-keep (while g c) at branch (o ∷ p) s i =
-        post-bind _ _ _ _ _ (post-refused-as _ _ _ _ (take-keeps c (o .label) p s i)) (λ t z. plays-keep (while g c) at branch t z)
+        post-bind _ _ _ _ _ (post-refused-as _ _ _ _ (take-keeps c _ p s i)) (λ t z. plays-keep (while g c) at branch t z)
 
-    take-all-keep : (cs : Cmds) (i k : ℕ) (branch : Label) (p : List Open) (s : State) → I s → Leaves I Q (takeUpAll w cs i k branch p s)
+    take-all-keep : (cs : Cmds) (i k : ℕ) (branch : Label) (p : List Open) (s : State) → I s → PostStop I Q (takeUpAll w cs i k branch p s)
     take-all-keep nil i n branch p s q = post-ok _ _ _ q
     take-all-keep (cons c cs) i zero branch p s q =
         post-bind _ _ _ _ _ (post-refused-as _ _ _ _ (take-keeps c branch p s q)) (λ t z. all-keep cs (i + 1) branch t z)
@@ -129,7 +125,7 @@ counting w from =
 
 -- so it is of a command that is taken up
 pub take-counts : (w : Setting) (from : ℕ) (c : Cmd) (branch : Label) (p : List Open) (s : State) → Counted (w .limits .budget) from s
-    → Leaves (Counted (w .limits .budget) from) (StopCounted (w .limits .budget) from) (takeUp w c branch p s)
+    → PostStop (Counted (w .limits .budget) from) (StopCounted (w .limits .budget) from) (takeUp w c branch p s)
 take-counts w from c branch p s h = post-map _ _ _ _ _ (take-keeps (counting w from) c branch p s h) (λ _ z. z) (λ _ z. z .0)
 
 -- the blocks of a programme, the first of them taken up along a path

@@ -183,7 +183,7 @@ module _ (w₀ : Setting) (budget entries entries′ : ℕ) where
     two-bodies skip at branch s s′ z = alike-ok Two _ _ _ z
     two-bodies (assign t v) at branch s s′ z =
         alike-bind _ _ _ _ _ _ _ (two-attempt at branch s s′ z t v) λ x x′ q. rw (← q .0) (alike-ok Two _ _ _ (two-performed at x s s′ z (q .1)))
-    two-bodies (seq cs) at branch s s′ z = two-all cs 0 branch s s′ z
+    two-bodies (seq cs) at branch s s′ z = two-all cs _ branch s s′ z
     two-bodies (if g c d) at branch s s′ z =
         alike-bind _ _ _ _ _ _ _ (two-guard at s s′ z g) λ j j′ q.
         let y = two-counted s s′ z (q .1) in
@@ -218,7 +218,7 @@ module _ (w₀ : Setting) (budget entries entries′ : ℕ) where
         (two-within 0 _ _ _ (two-takes c (o .label) p s s′ z)) (two-within 1 _ _ _ (two-takes d (o .label) p s s′ z))
     two-taken (while g c) at branch [] s s′ z = two-bodies (while g c) at branch s s′ z
     two-taken (while g c) at branch (o ∷ p) s s′ z =
-        alike-bind Two Two TwoPauses _ _ _ _ (two-within 0 _ _ _ (two-takes c (o .label) p s s′ z)) (λ t t′ y. two-bodies (while g c) at branch t t′ y)
+        alike-bind Two Two TwoPauses _ _ _ _ (two-within 0 _ _ _ (two-takes c _ p s s′ z)) (λ t t′ y. two-bodies (while g c) at branch t t′ y)
 
     two-take-all : (cs : Cmds) (i k : ℕ) (branch : Label) (p : List Open) (s s′ : State) → Two s s′
         → Twice (takeUpAll w cs i k branch p s) (takeUpAll w′ cs i k branch p s′)

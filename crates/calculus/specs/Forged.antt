@@ -10,6 +10,7 @@ use Rattle.store.specs.Sheet.{Tables, tablesOf, openingOf, storeSheet}
 use Rattle.calculus.specs.Vectors.{int, bool, wrote, kept, flagged, one, branches, branchAt, blank}
 use Rattle.calculus.specs.Isolation.{Protected, StoresAgree, FloorsOutOfReach, FullRule, IsolationOf}
 use Rattle.calculus.specs.Stretches.{From, opening, checkpoint, stretch, answer, output, pause}
+use Rattle.calculus.specs.Stretched.{LastStretch}
 use Rattle.calculus.specs.StretchesWorked.{sheet, lent, unflagged, fitted}
 
 -- a start, or a checkpoint that some call over this store and programme wrote under full provenance, wherever that call itself went on from
@@ -21,16 +22,8 @@ pub data SomeCallWrote (store programme : List ℕ) : From → Type 0 where
       (pause from (stretch store programme rule budget (length out) (length sheet)) sheet))
 
 -- as `FullStretches` (Stretched.antt), without the unbroken chain from a start
-pub record LooseStretches (store programme out : List ℕ) : Type 0 where
-  pub from : From
-  pub came : SomeCallWrote store programme from
-  pub rule : ℕ
-  pub full : FullRule rule
-  pub budget : ℕ
-  pub old : List ℕ
-  pub sheet : List ℕ
-  pub finishes : answer from (stretch store programme rule budget (length old) (length sheet)) .number ≡ 0
-  pub ends : out ≡ output from (stretch store programme rule budget (length old) (length sheet)) old
+abbrev pub LooseStretches : (store programme out : List ℕ) → Type 0
+LooseStretches store programme = LastStretch (SomeCallWrote store programme) store programme
 
 abbrev pub LooseIsolation : Type 0
 LooseIsolation = IsolationOf LooseStretches FloorsOutOfReach

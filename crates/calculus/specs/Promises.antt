@@ -25,6 +25,10 @@ use Rattle.calculus.specs.Misreadings.{MisreadingsHold}
 use Rattle.calculus.specs.Operations.{OperationsHold}
 use Rattle.calculus.specs.Written.{JournalTells}
 use Rattle.calculus.specs.Journalled.{JournalsHold}
+use Rattle.calculus.specs.Stretched.{PathsAside, NeverPaused, StartsAsRun, NoneFull, WrittenGood, RuleOfNext, IsolationInStretches}
+use Rattle.calculus.specs.StretchesWorked.{StretchesHold}
+use Rattle.calculus.specs.CheckpointsWorked.{CheckpointsHold}
+use Rattle.calculus.specs.Forged.{LooseIsolation, LooseWorked}
 use Rattle.calculus.specs.Floors.{JudgedByMeet, FloorsIgnored, FloorsHold}
 
 pub record Promises : Type 0 where
@@ -100,3 +104,18 @@ pub record Promises : Type 0 where
   pub protected-entries-agree : ProtectedEntriesAgree
   pub protected-tested : ProtectedTested
   pub journals-hold : JournalsHold
+  -- Document 02, N8: pause and carry on. A command whose stops have paths comes to what `exec` says; a start answers and writes what a run does with
+  -- a journal long enough, but for 17, and pausing and carrying on under one rule is never pausing. 18 does not arise, and what was written at a pause is
+  -- not refused by 19. The rule of a stretch judges the step that is next. Demand 3 over runs in stretches, where each goes on from what the one before it
+  -- wrote; said of a checkpoint that some call wrote it is false. Worked examples
+  pub paths-aside : PathsAside
+  pub starts-as-run : StartsAsRun
+  pub never-paused : NeverPaused
+  pub none-full : NoneFull
+  pub written-good : WrittenGood
+  pub rule-of-next : RuleOfNext
+  pub isolated-in-stretches : IsolationInStretches
+  pub loose-worked : LooseWorked
+  pub loose-not-isolated : LooseIsolation → ⊥
+  pub stretches-hold : StretchesHold
+  pub checkpoints-hold : CheckpointsHold

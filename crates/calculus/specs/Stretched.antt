@@ -67,6 +67,10 @@ pub record AsRun (c : Stretch) (entries : ℕ) : Type 0 where
 abbrev pub StartsAsRun : Type 0
 StartsAsRun = (c : Stretch) (entries : ℕ) → c .pauseRoom ≡ pauseWidth → c .budget ≤ entries → AsRun c entries
 
+-- "No journal is lent here, and 18 doesn't arise."
+abbrev pub NoneFull : Type 0
+NoneFull = (from : From) (c : Stretch) → answer from c .number ≡ 18 → ⊥
+
 -- what is read are bytes
 unfoldable pub BytesIn : From → Type 0
 BytesIn opening = Unit {0}
@@ -140,11 +144,10 @@ RuleOfNext = (out sheet : List ℕ) (c : Stretch) (g : GoesFrom (checkpoint out 
 
 -- Demand 3
 
--- a run in stretches, each under full provenance, that finishes: "Protected slots are compared over finished runs in stretches too, where every stretch ran
--- under rule 3, each sheet and output came back as written, and the opening values are those of the first stretch."
-pub record FullStretches (store programme out : List ℕ) : Type 0 where
+-- a last stretch, under full provenance, that finishes: it goes on from a start or a checkpoint that came about so
+pub record LastStretch (Came : From → Type 0) (store programme out : List ℕ) : Type 0 where
   pub from : From
-  pub chain : Chain FullRule store programme from
+  pub came : Came from
   pub rule : ℕ
   pub full : FullRule rule
   pub budget : ℕ
@@ -152,6 +155,11 @@ pub record FullStretches (store programme out : List ℕ) : Type 0 where
   pub sheet : List ℕ
   pub finishes : answer from (stretch store programme rule budget (length old) (length sheet)) .number ≡ 0
   pub ends : out ≡ output from (stretch store programme rule budget (length old) (length sheet)) old
+
+-- a run in stretches, each under full provenance, that finishes: "Protected slots are compared over finished runs in stretches too, where every stretch ran
+-- under rule 3, each sheet and output came back as written, and the opening values are those of the first stretch."
+abbrev pub FullStretches : (store programme out : List ℕ) → Type 0
+FullStretches store programme = LastStretch (Chain FullRule store programme) store programme
 
 -- demand 3 as document 02, N6 widens it, over runs in stretches
 abbrev pub IsolationInStretches : Type 0

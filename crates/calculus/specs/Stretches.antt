@@ -4,13 +4,13 @@ use Prim.Native.Nat.{ℕ, _+_, _-_, _*_, max}
 use mathlib.Core.Bool.{Bool, true, false}
 use mathlib.Core.List.{List, [], _∷_, _++_, map}
 use lib.ListN.{getD, length, drop, replicate}
-use lib.Dec.{ltb, leb, eqb}
+use lib.Dec.{leb, eqb}
 use Rattle.lattice.specs.Tests.{_and_, every}
-use Rattle.lattice.specs.Order.{Label, top}
+use Rattle.lattice.specs.Order.{top}
 use Rattle.store.specs.declared.Answer.{Answer}
 use Rattle.store.specs.Result.{Result, ok, refuse, _>>=_, require, refusedAs, says, unplaced}
 use Rattle.store.specs.Bytes.{numberAt, numberBytes, table, filled}
-use Rattle.store.specs.Value.{valueWidth, wellFormed, valueAt, Slot, emptySlot, slotWidth}
+use Rattle.store.specs.Value.{wellFormed, valueAt, Slot, emptySlot, slotWidth}
 use Rattle.store.specs.Sheet.{Tables, Opening, mostSlots, storeSheet, slotsBytes}
 use Rattle.programme.specs.Sheet.{Block, programmeSheet}
 use Rattle.calculus.specs.Rules.{RuleSet, rulesOf}

@@ -186,6 +186,10 @@ atBranch = checkpoint (kept (bool 1) ++ kept (int 7)) (sheet (1 ∷ 0 ∷ 0 ∷ 
 abbrev pub branchUnder : ℕ → Stretch
 branchUnder rule = fitted rule 10 flagged (one 1 branches)
 
+-- while slot 0 do slot 1 := 41, the assignment at P9's offset
+abbrev pub repeats : List ℕ
+repeats = 0x24 ∷ (read 0 ++ assign (writes 1) (lit (int 41)))
+
 -- "After a change of rule, the next step is the first judged by the new one."
 unfoldable pub changes : List Worked
 changes =
@@ -199,6 +203,9 @@ changes =
     ∷ finishing atBranch 0 10 flagged (one 1 branches) 1 2 (thenPart 2 .end)
     -- no step, so nothing is judged
     ∷ pausing atBranch 3 1 flagged (one 1 branches) 0 branchAt 1 (kept (bool 1) ++ kept (int 7)) (sheet (1 ∷ 0 ∷ 0 ∷ 0 ∷ 1 ∷ 0 ∷ 0 ∷ 0 ∷ []))
+    -- in a while's body as in a branch: the label inside is taken up again
+    ∷ pausing From.opening 2 1 flagged (one 1 repeats) 0 branchAt 1 (kept (bool 1) ++ kept (int 7)) (sheet (1 ∷ 0 ∷ 0 ∷ 0 ∷ 1 ∷ 0 ∷ 0 ∷ 0 ∷ []))
+    ∷ refusing atBranch (fitted 3 10 flagged (one 1 repeats)) (says 16 0 branchAt 1)
     ∷ []
 
 abbrev pub stretches : List Worked

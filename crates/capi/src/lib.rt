@@ -6,6 +6,7 @@ ghost use Rattle.store.specs.Held.{refusalOf};
 ghost use Rattle.programme.specs.Sheet.{programmeSheet, checkAnswer};
 ghost use lib.ListN.{length};
 ghost use Rattle.calculus.specs.Run.{call, answer, output, journal as journalAfter};
+ghost use Rattle.calculus.specs.Stretches.{opening, checkpoint, stretch, answer as stretchAnswer, output as stretchOutput, pause as stretchPause};
 use store::Answer;
 use store::Entry;
 
@@ -62,4 +63,45 @@ pub extern "C" fn muntyzhap_run(
         ⌝ }
 {
     runner::run(store, programme, rule, budget, out, journal)
+}
+
+// A run by stretches, from its start. It takes an output as a run does, and a pause buffer of `Checkpoint::WIDTH` bytes. Out of budget, it answers 17 by
+// writing both; finished, it writes the output; any other refusal leaves both as they were.
+#[no_mangle]
+pub extern "C" fn muntyzhap_start(
+    store: &[u8],
+    programme: &[u8],
+    rule: u32,
+    budget: u32,
+    out: &mut [u8],
+    pause: &mut [u8],
+) -> Answer
+    ensures { λ r. ⌜
+        (r ≡ stretchAnswer opening (stretch (now (store .entry)) (now (programme .entry)) rule budget (length (now (out .entry))) (length (now (pause .entry)))))
+        × (now (out .exit) ≡ stretchOutput opening (stretch (now (store .entry)) (now (programme .entry)) rule budget (length (now (out .entry))) (length (now (pause .entry)))) (now (out .entry)))
+        × (now (pause .exit) ≡ stretchPause opening (stretch (now (store .entry)) (now (programme .entry)) rule budget (length (now (out .entry))) (length (now (pause .entry)))) (now (pause .entry)))
+        ⌝ }
+{
+    runner::start(store, programme, rule, budget, out, pause)
+}
+
+// Carries a run on from an old output and an old pause sheet, which are only read. The budget includes the steps so far.
+#[no_mangle]
+pub extern "C" fn muntyzhap_carry_on(
+    store: &[u8],
+    programme: &[u8],
+    rule: u32,
+    budget: u32,
+    old: &[u8],
+    sheet: &[u8],
+    out: &mut [u8],
+    pause: &mut [u8],
+) -> Answer
+    ensures { λ r. ⌜
+        (r ≡ stretchAnswer (checkpoint (now (old .entry)) (now (sheet .entry))) (stretch (now (store .entry)) (now (programme .entry)) rule budget (length (now (out .entry))) (length (now (pause .entry)))))
+        × (now (out .exit) ≡ stretchOutput (checkpoint (now (old .entry)) (now (sheet .entry))) (stretch (now (store .entry)) (now (programme .entry)) rule budget (length (now (out .entry))) (length (now (pause .entry)))) (now (out .entry)))
+        × (now (pause .exit) ≡ stretchPause (checkpoint (now (old .entry)) (now (sheet .entry))) (stretch (now (store .entry)) (now (programme .entry)) rule budget (length (now (out .entry))) (length (now (pause .entry)))) (now (pause .entry)))
+        ⌝ }
+{
+    runner::carry_on(store, programme, rule, budget, old, sheet, out, pause)
 }

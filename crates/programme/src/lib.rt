@@ -18,6 +18,7 @@ mod reader;
 
 pub use headers::header_of;
 use reader::Reading;
+pub use reader::Spot;
 
 // What a block's entries in the sheet's arrays say, besides its length.
 pub struct Header {
@@ -127,7 +128,7 @@ pub type Operands = [[u8; Operand::WIDTH]; Operand::MOST];
 pub type Payloads = [u64; Operand::MOST];
 
 // The length of block i; for i not below k, what stands there. Bytes past the sheet's end are 0. As i has one byte, no place overflows.
-fn length_at(sheet: &[u8], i: u8) -> usize
+pub fn length_at(sheet: &[u8], i: u8) -> usize
     ensures { λ r. ⌜ (r ≡ lengthAt (now (sheet .entry)) i) × (r < 65536) ⌝ }
 {
     let k = store::number_at(sheet, 0, 1) as usize;

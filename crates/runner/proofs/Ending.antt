@@ -38,7 +38,7 @@ use Rattle.runner.specs.Journal.{Nothing, replayed, openingSeat, opens, 
 use Rattle.runner.proofs.Serving.{top-held}
 use Rattle.runner.proofs.Playing.{everywhere}
 use Rattle.runner.proofs.Underway.{at-start}
-use Rattle.runner.specs.Whole.{Passes, OpeningHeld, TakenIn, Finishes, CanFinish}
+use Rattle.runner.specs.Whole.{Passes, OpeningHeld, TakenIn, Prepared, Finishes, CanFinish}
 
 -- the next block of a programme that was read
 pub record Next (slots : ℕ) (p : List ℕ) (n i : ℕ) (bs : List Block) : Type 0 where
@@ -95,6 +95,13 @@ written-whole held m old small room =
     let n : min (min m mostSlots) (length old / slotWidth) ≡ m = omega arith in
     rw n (sets-whole old (rowsBytes held 0 m) (room ∙ sym (length-rows held 0 m)))
 
+-- the output of a store that is held
+pub output-written : (w : Tables) (s : List Slot) (held : List (List ℕ)) (m n : ℕ) (old out : List ℕ) → StoreHeld w s held → m ≤ mostSlots → n ≡ m → length old ≡ slotWidth * m
+    → out ≡ outAfter held (fitting n (length old)) old → out ≡ slotsBytes s 0 m
+output-written w s held m n old out h small e room q =
+    q ∙ ap (λ (i : ℕ). outAfter held (fitting i (length old)) old) e ∙ written-whole held m old small room
+    ∙ ap (λ (y : List (List ℕ)). rowsBytes y 0 m) (h .same) ∙ rows-bytes w s 0 m (omega arith)
+
 -- What the end of a run of blocks says
 
 pub record FinishedAs (w : Tables) (l : Limits) (rows : List (List ℕ)) (n free : ℕ) (r : Result Halted State) : Type 0 where
@@ -120,14 +127,43 @@ unfolding haltAnswer
 ended-halted (halted {h = h} x y z u p) = record { halt = h; says = rw (x, y, z, u); paused = p; same = refl }
 
 -- an opened store and a programme that was taken in can be played
+module _ {rules : RuleSet} {o : Opening} {bs : List Block} {t : Opened} {j : Judges} {p : List ℕ} {tables : Compiled} (x : Prepared rules o bs t j p tables) where
+  pub prepared-order : t .table ≡ o .tables .order
+  unfolding openedOf
+  prepared-order = ap (λ (y : Opened). y .table) (x .opened)
+
+  pub prepared-slots : t .slots ≡ o .tables .slots
+  unfolding openedOf
+  prepared-slots = ap (λ (y : Opened). y .slots) (x .opened)
+
+  pub prepared-room : codeAt (kOf p) ≤ length p
+  prepared-room = let y = programmed _ _ p bs (x .taken .sheet) in omega (arith, y .lengths .size)
+
+  module _ (g : Played) (tables-are : g .tables ≡ tables) where
+    pub prepared-under : g .order ≡ t .table → g .judges ≡ j → AllUnder (o .tables) rules g
+    prepared-under order judges = record { grounds = x .grounds; order = sym (order ∙ prepared-order); judges = judges ∙ x .judges }
+
+    pub prepared-loaded : (k : ℕ) → k ≡ kOf p → Loaded (o .tables) g p k bs
+    prepared-loaded k e =
+        let y = programmed _ _ p bs (x .taken .sheet) in
+        record {
+          headers = blocks-headers _ _ p (kOf p) 0 bs (λ i l. y .headers i (omega arith)) (y .reads);
+          stand = rw tables-are (x .taken .stand);
+          count = blocks-count _ p (kOf p) 0 bs (y .reads) ∙ sym e;
+        }
+
+-- from its opening store
+pub prepared-opening : (o : Opening) (t : Opened) (held : List (List ℕ)) → OpeningHeld o t held → (j : Judges) (rules : RuleSet) → j ≡ judgesOf (ok rules) → (p : List ℕ) (tables : Compiled) (bs : List Block)
+    → TakenIn o p tables bs → Prepared rules o bs t j p tables
+prepared-opening o t held h j rules q p tables bs x = record { opened = h .opened; grounds = h .grounds; small = h .small; judges = q; taken = x }
+
 module _ (o : Opening) (t : Opened) (held : List (List ℕ)) (h : OpeningHeld o t held) (j : Judges) (rules : RuleSet) (q : j ≡ judgesOf (ok rules)) (p : List ℕ) (g : Played)
     (bs : List Block) (x : TakenIn o p (g .tables) bs) (order : g .order ≡ t .table) (judges : g .judges ≡ j) where
-  tables : t .table ≡ o .tables .order
-  unfolding openedOf
-  tables = ap (λ (y : Opened). y .table) (h .opened)
+  abbrev prepared : Prepared rules o bs t j p (g .tables)
+  prepared = prepared-opening o t held h j rules q p (g .tables) bs x
 
-  pub all-under : AllUnder (o .tables) rules g
-  all-under = record { grounds = h .grounds; order = sym (order ∙ tables); judges = judges ∙ q }
+  abbrev pub all-under : AllUnder (o .tables) rules g
+  all-under = prepared-under prepared g refl order judges
 
   pub left-all : (l : Limits) → l .budget ≡ g .budget → (k : ℕ) → k ≡ kOf p
       → LeftToPlay (o .tables) rules l g p k (openingPlace (l .entries)) held (runBlocks (o .tables) rules l 0 bs (start (o .store)))
@@ -150,14 +186,8 @@ module _ (o : Opening) (t : Opened) (held : List (List ℕ)) (h : OpeningHeld o 
         means = refl;
       }
 
-  pub loaded-all : (k : ℕ) → k ≡ kOf p → Loaded (o .tables) g p k bs
-  loaded-all k e =
-      let y = programmed _ _ p bs (x .sheet) in
-      record {
-        headers = blocks-headers _ _ p (kOf p) 0 bs (λ i l. y .headers i (omega arith)) (y .reads);
-        stand = x .stand;
-        count = blocks-count _ p (kOf p) 0 bs (y .reads) ∙ sym e;
-      }
+  abbrev pub loaded-all : (k : ℕ) → k ≡ kOf p → Loaded (o .tables) g p k bs
+  loaded-all = prepared-loaded prepared g refl
 
   -- from the start
   pub play-all : (l : Limits) → l .budget ≡ g .budget → (k : ℕ) (e : k ≡ kOf p) (top : ℕ) → top ≡ topMask (t .table .n)
@@ -165,10 +195,10 @@ module _ (o : Opening) (t : Opened) (held : List (List ℕ)) (h : OpeningHeld o 
   unfolding start rowsBefore
   play-all l b k e top f =
       at-start all-under (loaded-all k e) (openingPlace (l .entries)) top held (start (o .store)) _
-      (rw (f, tables) (top-held (o .tables .order) (h .grounds .table))) b (omega arith) refl (h .store-held) refl (λ i. omega (arith, h .unwritten i)) (omega arith) refl
+      (rw (f, prepared-order prepared) (top-held (o .tables .order) (h .grounds .table))) b (omega arith) refl (h .store-held) refl (λ i. omega (arith, h .unwritten i)) (omega arith) refl
 
-  pub sheet-room : codeAt (kOf p) ≤ length p
-  sheet-room = let y = programmed _ _ p bs (x .sheet) in omega (arith, y .lengths .size)
+  abbrev pub sheet-room : codeAt (kOf p) ≤ length p
+  sheet-room = prepared-room prepared
 
 -- what is left to play of a run that finishes
 abbrev finishing : {w : Tables} {rules : RuleSet} {l : Limits} {g : Played} {p : List ℕ} {k : ℕ} {from : Place} {held : List (List ℕ)} {whole : Result Halt State}
@@ -281,10 +311,7 @@ module _ (t : Opened) (j : Judges) (budget entries : ℕ) (p : List ℕ) (compil
         rw same
         (record {
           answered = rw (z .count, count) refl;
-          written =
-              w ∙ ap (λ (i : ℕ). outAfter held′ (fitting i (length old)) old) slots ∙ written-whole held′ (o .tables .slots) old (h .small) room
-              ∙ ap (λ (y : List (List ℕ)). rowsBytes y 0 (o .tables .slots)) (z .held .same)
-              ∙ rows-bytes (o .tables) (z .state .store) 0 (o .tables .slots) (omega (arith, h .small));
+          written = output-written (o .tables) (z .state .store) held′ (o .tables .slots) (t .slots) old out (z .held) (h .small) slots room w;
           many = omega (arith, z .entries);
           fits = omega arith;
           left = writes-left rules o bs h d x (z .state) _ same refl refl refl _ refl;

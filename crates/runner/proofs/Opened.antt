@@ -50,6 +50,7 @@ opening-held s o t old held e p q =
     record {
       opened = p ∙ ap openedOf e;
       grounds = x .ordered;
+      outside = x .outside;
       unwritten = λ i. unwritten-at s o x i (decLt i (o .tables .slots));
       store-held = record { size = x .sized; same = q ∙ ap (λ (r : Result ℕ Opening). heldAfter r old) e; formed = λ i. formed-more _ _ (x .formed i) mostSlots (x .small) };
       small = x .small;

@@ -27,7 +27,7 @@ module _ {A : Type 0} where
       ap₂ (λ (b : A) (l : List A). b ∷ l) (h i (λ e. omega arith))
       (entries-set (i + 1) n f g j a (λ k e. h k (λ d. e (omega arith))) (ap g (omega arith) ∙ q))
 
-  table-set : (n : ℕ) (f g : ℕ → A) (i : ℕ) (a : A) → ((k : ℕ) → (k ≡ i → ⊥) → f k ≡ g k) → g i ≡ a → set (table n f) i a ≡ table n g
+  pub table-set : (n : ℕ) (f g : ℕ → A) (i : ℕ) (a : A) → ((k : ℕ) → (k ≡ i → ⊥) → f k ≡ g k) → g i ≡ a → set (table n f) i a ≡ table n g
   table-set n f g i a h q = entries-set 0 n f g i a (λ k e. h k (λ d. e (omega arith))) (ap g (omega arith) ∙ q)
 
 module _ (w : Tables) (s : Store) (x : Write) (rows : List (List ℕ)) (h : StoreHeld w s rows) (i k p o : ℕ)

@@ -6,5 +6,11 @@ pub mod Evaluating
 pub mod Machine
 pub mod Playing
 pub mod Contracts
+pub mod Outputs
 pub mod Journal
 pub mod Whole
+pub mod Layout
+pub mod Parts
+pub mod Following
+pub mod Checkpoint
+pub mod Stretching

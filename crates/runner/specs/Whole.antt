@@ -42,6 +42,7 @@ pub record OpeningHeld (o : Opening) (t : Opened) (held : List (List ℕ)) : Typ
   pub grounds : Ordered (o .tables)
   pub store-held : StoreHeld (o .tables) (o .store) held
   pub unwritten : (i : ℕ) → getD (o .store) i emptySlot .writes ≡ 0
+  pub outside : (i : ℕ) → o .tables .slots ≤ i → getD (o .store) i emptySlot ≡ emptySlot
   pub small : o .tables .slots ≤ mostSlots
 
 -- tables of their full lengths
@@ -61,6 +62,14 @@ pub record CanStart (t : Opened) (j : Judges) (held : List (List ℕ)) : Type 0 
 pub record TakenIn (o : Opening) (p : List ℕ) (t : Compiled) (bs : List Block) : Type 0 where
   pub sheet : programmeSheet (o .tables .order .n) (o .tables .slots) p ≡ ok bs
   pub stand : BlocksAt t 0 0 bs
+
+-- a store that was opened, and a programme that was taken in; the held store may be any
+pub record Prepared (rules : RuleSet) (o : Opening) (blocks : List Block) (t : Opened) (j : Judges) (p : List ℕ) (tables : Compiled) : Type 0 where
+  pub opened : t ≡ openedOf (ok o)
+  pub grounds : Ordered (o .tables)
+  pub small : o .tables .slots ≤ mostSlots
+  pub judges : j ≡ judgesOf (ok rules)
+  pub taken : TakenIn o p tables blocks
 
 -- What every run begins with: "Order: 11; store sizes present (1), .."; 1 to 5; 6 to 10
 pub record Readied : Type 0 where

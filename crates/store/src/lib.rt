@@ -70,6 +70,8 @@ impl Answer {
     pub const BUDGET_SPENT: u32 = 17;
 
     pub const JOURNAL_FULL: u32 = 18;
+
+    pub const CHECKPOINT: u32 = 19;
 }
 
 // A refusal without a place.
