@@ -1,6 +1,7 @@
 -- Document 02, N8: the second entry point, which pauses, and carrying on: answers, outputs and pause sheets of both, for every input. A checkpoint is
 -- its pause sheet. Assumes nothing.
 use Prim.Native.Nat.{ℕ, _+_, _-_, _*_, max}
+use mathlib.Core.Path.{_≡_}
 use mathlib.Core.Bool.{Bool, true, false}
 use mathlib.Core.List.{List, [], _∷_, _++_, map}
 use lib.ListN.{getD, length, drop, replicate}
@@ -227,3 +228,7 @@ output from c old = outputOf (runStretch from c) old
 
 abbrev pub pause : From → Stretch → List ℕ → List ℕ
 pause from c old = pauseOf (runStretch from c) old
+
+-- A call from there comes to the answer r, and leaves `out` and `sheet` in the buffers that were lent to it, where they held `old` and `oldSheet`.
+abbrev pub ComesTo : From → Stretch → (old oldSheet out sheet : List ℕ) → Answer → Type 0
+ComesTo from c old oldSheet out sheet r = (r ≡ answer from c) × (out ≡ output from c old) × (sheet ≡ pause from c oldSheet)

@@ -6,7 +6,7 @@ ghost use Rattle.store.specs.Held.{refusalOf};
 ghost use Rattle.programme.specs.Sheet.{programmeSheet, checkAnswer};
 ghost use lib.ListN.{length};
 ghost use Rattle.calculus.specs.Run.{call, answer, output, journal as journalAfter};
-ghost use Rattle.calculus.specs.Stretches.{opening, checkpoint, stretch, answer as stretchAnswer, output as stretchOutput, pause as stretchPause};
+ghost use Rattle.calculus.specs.Stretches.{opening, checkpoint, stretch, ComesTo};
 use store::Answer;
 use store::Entry;
 
@@ -77,9 +77,8 @@ pub extern "C" fn muntyzhap_start(
     pause: &mut [u8],
 ) -> Answer
     ensures { λ r. ⌜
-        (r ≡ stretchAnswer opening (stretch (now (store .entry)) (now (programme .entry)) rule budget (length (now (out .entry))) (length (now (pause .entry)))))
-        × (now (out .exit) ≡ stretchOutput opening (stretch (now (store .entry)) (now (programme .entry)) rule budget (length (now (out .entry))) (length (now (pause .entry)))) (now (out .entry)))
-        × (now (pause .exit) ≡ stretchPause opening (stretch (now (store .entry)) (now (programme .entry)) rule budget (length (now (out .entry))) (length (now (pause .entry)))) (now (pause .entry)))
+        ComesTo opening (stretch (now (store .entry)) (now (programme .entry)) rule budget (length (now (out .entry))) (length (now (pause .entry))))
+        (now (out .entry)) (now (pause .entry)) (now (out .exit)) (now (pause .exit)) r
         ⌝ }
 {
     runner::start(store, programme, rule, budget, out, pause)
@@ -98,9 +97,8 @@ pub extern "C" fn muntyzhap_carry_on(
     pause: &mut [u8],
 ) -> Answer
     ensures { λ r. ⌜
-        (r ≡ stretchAnswer (checkpoint (now (old .entry)) (now (sheet .entry))) (stretch (now (store .entry)) (now (programme .entry)) rule budget (length (now (out .entry))) (length (now (pause .entry)))))
-        × (now (out .exit) ≡ stretchOutput (checkpoint (now (old .entry)) (now (sheet .entry))) (stretch (now (store .entry)) (now (programme .entry)) rule budget (length (now (out .entry))) (length (now (pause .entry)))) (now (out .entry)))
-        × (now (pause .exit) ≡ stretchPause (checkpoint (now (old .entry)) (now (sheet .entry))) (stretch (now (store .entry)) (now (programme .entry)) rule budget (length (now (out .entry))) (length (now (pause .entry)))) (now (pause .entry)))
+        ComesTo (checkpoint (now (old .entry)) (now (sheet .entry))) (stretch (now (store .entry)) (now (programme .entry)) rule budget (length (now (out .entry))) (length (now (pause .entry))))
+        (now (out .entry)) (now (pause .entry)) (now (out .exit)) (now (pause .exit)) r
         ⌝ }
 {
     runner::carry_on(store, programme, rule, budget, old, sheet, out, pause)

@@ -3,8 +3,8 @@ use borrow.Author.Needs.{needs}
 use borrow.Author.Tests.{not-true, not-false}
 use Rattle.runner.proofs.Opened.{slots-few}
 use Rattle.runner.proofs.Entering.{enter-refused, start-12, start-can, start-plays}
-use Rattle.runner.proofs.start.Statement.{statement}
-use Rattle.runner.proofs.start.Tie as tie
+use Rattle.runner.proofs.carrying.start.Statement.{statement}
+use Rattle.runner.proofs.carrying.start.Tie as tie
 
 prepare-requires : tie.Need-prepare-requires
 prepare-requires c κs = search needs

@@ -7,8 +7,8 @@ use borrow.Author.Tests.{not-true, not-false}
 use Rattle.runner.proofs.Opened.{slots-few}
 use Rattle.runner.proofs.TakingUp.{and-false, false-and}
 use Rattle.runner.proofs.Entering.{enter-refused, carry-12, carry-take, carry-19, carry-can, carry-plays}
-use Rattle.runner.proofs.carry_on.Statement.{statement}
-use Rattle.runner.proofs.carry_on.Tie as tie
+use Rattle.runner.proofs.carrying.carry_on.Statement.{statement}
+use Rattle.runner.proofs.carrying.carry_on.Tie as tie
 
 prepare-requires : tie.Need-prepare-requires
 prepare-requires c κs = search needs
