@@ -1,6 +1,5 @@
 use mathlib.Core.Bool.{false≢true}
 use native.Mathlib.Omega.{arith}
-use borrow.Author.Tests.{leb-true, le-leb}
 use borrow.Author.Needs.{needs}
 use Rattle.vectors.proofs.fits.Statement.{statement}
 use Rattle.vectors.proofs.fits.Tie as tie
@@ -14,21 +13,12 @@ returns-2 c = (λ p. absurd (false≢true p), λ q. absurd (omega (arith, q)))
 returns-3 : tie.Need-returns-3
 returns-3 c = (λ p. absurd (false≢true p), λ q. absurd (omega (arith, q)))
 
+body-fits-requires : tie.Need-body-fits-requires
+body-fits-requires c κs = search needs
+
 returns-4 : tie.Need-returns-4
-returns-4 c = (λ p. absurd (false≢true p), λ q. absurd (omega (arith, q)))
-
-returns-5 : tie.Need-returns-5
-returns-5 c = (λ p. absurd (false≢true p), λ q. absurd (omega (arith, q)))
-
-add-result : tie.Need-add-result
-add-result c = search needs
-
-add-result-2 : tie.Need-add-result-2
-add-result-2 c = search needs
-
-returns-6 : tie.Need-returns-6
-returns-6 c = (λ p. (omega arith, omega arith, leb-true _ _ p), λ q. le-leb _ _ (q .2))
+returns-4 c =
+    (λ p. (omega arith, omega arith, omega arith, c .body-fits .ensures .0 p), λ q. c .body-fits .ensures .1 (q .3))
 
 pub fits-spec : {M : Type 1} → statement M
-fits-spec =
-    tie.close (tie.spec returns returns-2 returns-3 returns-4 returns-5 add-result add-result-2 returns-6)
+fits-spec = tie.close (tie.spec returns returns-2 returns-3 body-fits-requires returns-4)

@@ -24,6 +24,18 @@ number-at-requires-6 c κs = search needs
 number-at-requires-7 : tie.Need-number-at-requires-7
 number-at-requires-7 c κs = search needs
 
+number-at-requires-8 : tie.Need-number-at-requires-8
+number-at-requires-8 c κs = search needs
+
+number-at-requires-9 : tie.Need-number-at-requires-9
+number-at-requires-9 c κs = search needs
+
+number-at-requires-10 : tie.Need-number-at-requires-10
+number-at-requires-10 c κs = search needs
+
+number-at-requires-11 : tie.Need-number-at-requires-11
+number-at-requires-11 c κs = search needs
+
 returns : tie.Need-returns
 unfolding headOf
 returns c =
@@ -33,7 +45,11 @@ returns c =
     let g = f .before .before in
     let h = g .before .before in
     let i = h .before .before in
-    rw (i .number-at .ensures, h .number-at2 .ensures, g .number-at3 .ensures, f .number-at4 .ensures, e .number-at5 .ensures, d .number-at6 .ensures, c .number-at7 .ensures)
+    let j = i .before .before in
+    let k = j .before .before in
+    let l = k .before .before in
+    let m = l .before .before in
+    rw (m .number-at .ensures, l .number-at2 .ensures, k .number-at3 .ensures, j .number-at4 .ensures, i .number-at5 .ensures, h .number-at6 .ensures, g .number-at7 .ensures, f .number-at8 .ensures, e .number-at9 .ensures, d .number-at10 .ensures, c .number-at11 .ensures)
 
 pub head-of-spec : {M : Type 1} → statement M
 head-of-spec =
@@ -46,4 +62,8 @@ head-of-spec =
     number-at-requires-5
     number-at-requires-6
     number-at-requires-7
+    number-at-requires-8
+    number-at-requires-9
+    number-at-requires-10
+    number-at-requires-11
     returns)

@@ -13,17 +13,18 @@ room-requires-2 c κs = search needs
 array-borrow-prefix-out : tie.Need-array-borrow-prefix-out
 array-borrow-prefix-out c = search needs
 
-slice-aggregate-run-case : tie.Need-slice-aggregate-run-case
-slice-aggregate-run-case c = simp length-take (omega arith)
+slice-aggregate-play-case : tie.Need-slice-aggregate-play-case
+slice-aggregate-play-case c = simp length-take (omega arith)
 
-array-share-prefix-before : tie.Need-array-share-prefix-before
-array-share-prefix-before c = search needs
+array-borrow-prefix-pause : tie.Need-array-borrow-prefix-pause
+array-borrow-prefix-pause c = search needs
 
-slice-aggregate-run-case-2 : tie.Need-slice-aggregate-run-case-2
-slice-aggregate-run-case-2 c = simp length-take (omega arith)
+slice-aggregate-play-case-2 : tie.Need-slice-aggregate-play-case-2
+slice-aggregate-play-case-2 c = simp length-take (omega arith)
 
-run-case-requires : tie.Need-run-case-requires
-run-case-requires c κs = search needs
+play-case-requires : tie.Need-play-case-requires
+play-case-requires c κs =
+    (search needs, (search needs, (simp length-take (omega arith), simp length-take (omega arith))))
 
 returns : tie.Need-returns
 returns c = search needs
@@ -35,8 +36,8 @@ lend-spec =
     room-requires
     room-requires-2
     array-borrow-prefix-out
-    slice-aggregate-run-case
-    array-share-prefix-before
-    slice-aggregate-run-case-2
-    run-case-requires
+    slice-aggregate-play-case
+    array-borrow-prefix-pause
+    slice-aggregate-play-case-2
+    play-case-requires
     returns)

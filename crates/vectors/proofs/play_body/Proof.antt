@@ -10,6 +10,12 @@ add-size c = search needs
 add-size-2 : tie.Need-add-size-2
 add-size-2 c = search needs
 
+add-size-3 : tie.Need-add-size-3
+add-size-3 c = search needs
+
+add-size-4 : tie.Need-add-size-4
+add-size-4 c = search needs
+
 body-room-requires : tie.Need-body-room-requires
 body-room-requires c κs = search needs
 
@@ -31,6 +37,8 @@ play-body-spec =
     (tie.spec
     add-size
     add-size-2
+    add-size-3
+    add-size-4
     body-room-requires
     array-borrow-prefix-body
     slice-aggregate-fill-and-play

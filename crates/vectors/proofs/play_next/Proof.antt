@@ -33,9 +33,6 @@ returns-2 c = search needs
 head-of-requires : tie.Need-head-of-requires
 head-of-requires c κs = search needs
 
-fits-requires : tie.Need-fits-requires
-fits-requires c κs = search needs
-
 slice-aggregate-stop-3 : tie.Need-slice-aggregate-stop-3
 slice-aggregate-stop-3 c = search needs
 
@@ -45,11 +42,23 @@ stop-requires-3 c κs = search needs
 returns-3 : tie.Need-returns-3
 returns-3 c = search needs
 
-play-body-requires : tie.Need-play-body-requires
-play-body-requires c κs = c .before .fits2 .ensures .0 (not-false _ (c .if3 .left))
+fits-requires : tie.Need-fits-requires
+fits-requires c κs = search needs
+
+slice-aggregate-stop-4 : tie.Need-slice-aggregate-stop-4
+slice-aggregate-stop-4 c = search needs
+
+stop-requires-4 : tie.Need-stop-requires-4
+stop-requires-4 c κs = search needs
 
 returns-4 : tie.Need-returns-4
 returns-4 c = search needs
+
+play-body-requires : tie.Need-play-body-requires
+play-body-requires c κs = c .before .fits2 .ensures .0 (not-false _ (c .if4 .left))
+
+returns-5 : tie.Need-returns-5
+returns-5 c = search needs
 
 pub play-next-spec : {M : Type 1} → statement M
 play-next-spec =
@@ -65,9 +74,12 @@ play-next-spec =
     stop-requires-2
     returns-2
     head-of-requires
-    fits-requires
     slice-aggregate-stop-3
     stop-requires-3
     returns-3
+    fits-requires
+    slice-aggregate-stop-4
+    stop-requires-4
+    returns-4
     play-body-requires
-    returns-4)
+    returns-5)

@@ -5,13 +5,16 @@ use Rattle.vectors.proofs.print_bytes.Statement.{statement}
 use Rattle.vectors.proofs.print_bytes.Tie as tie
 
 abbrev Inv-loop : tie.InvT-loop
-Inv-loop out i₀ t3 i = i ≤ length out
+Inv-loop bytes group i₀ t4 i = i ≤ length bytes
 
 abbrev μ-loop : tie.MeasureT-loop
-μ-loop out i₀ t3 i = length out - i
+μ-loop bytes group i₀ t4 i = length bytes - i
 
 loop-holds : tie.Need-loop-holds Inv-loop μ-loop
 loop-holds c = search needs
+
+rem-if1 : tie.Need-rem-if1 Inv-loop μ-loop
+rem-if1 c = search needs
 
 slice-aggregate-write-all : tie.Need-slice-aggregate-write-all Inv-loop μ-loop
 slice-aggregate-write-all c = search needs
@@ -44,6 +47,7 @@ print-bytes-spec =
     Inv-loop
     μ-loop
     loop-holds
+    rem-if1
     slice-aggregate-write-all
     write-all-requires
     number-at-requires
