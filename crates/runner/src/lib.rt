@@ -34,6 +34,7 @@ mod walking;
 
 pub use carrying::carry_on;
 pub use carrying::start;
+pub use checkpoint::Checkpoint;
 
 // Plays the blocks of a programme that was taken in, and writes the end store; a halt leaves the output as it was.
 fn finish(

@@ -8,6 +8,7 @@ ghost use lib.ListN.{length};
 ghost use Rattle.vectors.specs.Cases.{headOf, marked, bodyLength, mostOutput, mostBody, Fits};
 use printing::Input;
 use printing::Text;
+use runner::Checkpoint;
 use store::Answer;
 use store::Opened;
 
@@ -44,8 +45,6 @@ impl Head {
     const MOST_OUTPUT: usize = Opened::MOST_OUTPUT + Opened::SLOT_WIDTH;
 
     const MOST_BODY: usize = 32768;
-    // The bytes of a pause sheet.
-    const PAUSE: usize = 256;
 }
 
 // Says what is wrong with the list, and answers that it is not read on.
@@ -136,7 +135,7 @@ fn print_pause(kind: u64, number: u32, pause: &[u8])
     }
     io::write_all(1, b" pause");
     if number == Answer::BUDGET_SPENT {
-        print_bytes(pause, Head::PAUSE);
+        print_bytes(pause, Checkpoint::WIDTH);
     } else {
         print_kept(pause);
     }
