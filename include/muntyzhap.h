@@ -5,18 +5,20 @@
  * journal as a pointer and its number of entries. Where the length is 0 the
  * pointer may be NULL: nothing is read or written through it. The pointers to
  * block and offset may never be NULL. Buffers and numbers that a call writes
- * must not overlap each other or a sheet. The calls keep no pointer, take no
- * memory from the heap and hold no state, so threads may call them at the same
- * time over buffers of their own. A call takes about 86 KiB of stack.
+ * must not overlap each other, a sheet or what is carried on from. The calls
+ * keep no pointer, take no memory from the heap and hold no state, so threads
+ * may call them at the same time over buffers of their own. A call takes about
+ * 86 KiB of stack.
  *
  * A call's time is bounded by the bytes of its sheets and by its budget: the
  * bytes are gone over once, before the first step, and skips and sequences
- * cost nothing afterwards. A run that finishes is played a second time, up to
- * its last assignment, to fill the journal; one that is refused is not. The
- * longest refused call that was found, of a million steps with 255 operations
- * each, took 0.74 s on an AMD EPYC (Genoa).
+ * cost nothing afterwards. A run that finishes with a journal is played a
+ * second time, up to its last assignment, to fill it; one that is refused is
+ * not. The longest refused call that was found, of a million steps with 255
+ * operations each, took 0.74 s on an AMD EPYC (Genoa).
  *
- * Every input has an answer: any bytes may be passed as a sheet.
+ * Every input has an answer: any bytes may be passed as a sheet, an old output
+ * or an old pause sheet.
  */
 #ifndef MUNTYZHAP_H
 #define MUNTYZHAP_H
@@ -66,8 +68,16 @@ extern "C" {
 
 /* The rule or the budget is not one that there is. */
 #define MUNTYZHAP_ARGUMENTS 11
-/* The output has not MUNTYZHAP_SLOT_BYTES for each slot. */
+/* An output, old or new, has not MUNTYZHAP_SLOT_BYTES for each slot, or a pause
+ * sheet not MUNTYZHAP_PAUSE_BYTES. */
 #define MUNTYZHAP_OUTPUT_LENGTH 12
+/* The checkpoint, an old output and its pause sheet, is not good: its path
+ * leads to no assignment, if or while of the programme, a label on it does not
+ * stand at or below the one outside or is another one in a sequence, an unused
+ * byte is not 0, a value is ill-formed, or counts add up to more than the
+ * steps. Judged after 12. A good one need not be one that a call wrote: labels,
+ * values and counts can be altered so that it stays good. */
+#define MUNTYZHAP_CHECKPOINT 19
 
 /* Refused while a block runs, at the block and offset of the first byte of the
  * command whose step is forbidden. */
@@ -85,10 +95,12 @@ extern "C" {
  * neither at or above the slot's owner nor, in an endorsed block, at or above
  * the block's floor. */
 #define MUNTYZHAP_PROVENANCE_TOO_LOW 16
-/* The budget is spent. */
+/* The budget is spent. From muntyzhap_start and muntyzhap_carry_on this is no
+ * refusal but a pause: output and pause sheet are written. */
 #define MUNTYZHAP_BUDGET_SPENT 17
 /* An assignment comes, and no entry of the journal is free. Judged after 17 and
- * before anything of the assignment's target is evaluated. */
+ * before anything of the assignment's target is evaluated. By muntyzhap_run
+ * alone: the other two take no journal. */
 #define MUNTYZHAP_JOURNAL_FULL 18
 
 /* Rules */
@@ -147,6 +159,17 @@ extern "C" {
  * floor byte is its principal's number and nothing besides. */
 #define MUNTYZHAP_ENDORSED 0x80
 
+/* A pause sheet says where a run stands between two stretches. It starts with
+ * the steps so far, the length of a path in one byte and the number of a block
+ * in one. The path leads from the block's own command to the one whose step is
+ * next, and has an entry for each command that is open around that one, 31 at
+ * most. Then come two arrays with a byte for each entry, one right after the
+ * other: the child taken, from 0 (a then-part is 0, an else-part 1, a body 0),
+ * and the label of the branch inside it, a principal. The other bytes are 0. */
+#define MUNTYZHAP_PAUSE_BYTES 256
+/* The steps so far: one number, the lowest byte first. */
+#define MUNTYZHAP_STEPS_BYTES 4
+
 /* First bytes of expressions */
 
 /* A value follows. Its label is the top. */
@@ -199,13 +222,13 @@ struct muntyzhap_entry {
 
 /* How a run ended. */
 struct muntyzhap_answer {
-    /* MUNTYZHAP_FINISHED, or the refusal, 1 to 18. */
+    /* MUNTYZHAP_FINISHED, or the refusal, 1 to 19. */
     uint32_t number;
     /* The place of 9, 10 or 13 to 18; else offset 0, and block 0 for a refusal
      * and the number of blocks for a run that finished. */
     size_t block;
     size_t offset;
-    /* The steps done; a forbidden step is not counted. */
+    /* The steps done, in all stretches; a forbidden step is not counted. */
     uint32_t steps;
 };
 
@@ -275,6 +298,65 @@ muntyzhap_run(const uint8_t *store, size_t store_length,
               const uint8_t *programme, size_t programme_length, uint32_t rule,
               uint32_t budget, uint8_t *out, size_t out_length,
               struct muntyzhap_entry *journal, size_t journal_length);
+
+/*
+ * The first stretch of a run that can be paused. Checks both sheets and the
+ * arguments and runs the blocks in order, without a journal, until they finish
+ * or the budget is spent.
+ *
+ * Answers number 0 if they finish. Then out is the end store, and every byte of
+ * pause stays as it was. Answers 17 if the budget is spent. Then out holds each
+ * slot's value and how often it was written so far, and pause is the pause
+ * sheet: the two are the checkpoint that muntyzhap_carry_on takes. Else the
+ * number is the refusal, 1 to 16, and every byte of both stays as it was.
+ *
+ * store, store_length: the store sheet.
+ * programme, programme_length: the programme sheet.
+ * rule: the number of a rule, as of muntyzhap_run.
+ * budget: the most steps of this stretch, 0 to MUNTYZHAP_MOST_BUDGET.
+ * out, out_length: the output, MUNTYZHAP_SLOT_BYTES for each slot.
+ * pause, pause_length: the pause sheet, MUNTYZHAP_PAUSE_BYTES.
+ */
+struct muntyzhap_answer
+muntyzhap_start(const uint8_t *store, size_t store_length,
+                const uint8_t *programme, size_t programme_length,
+                uint32_t rule, uint32_t budget, uint8_t *out, size_t out_length,
+                uint8_t *pause, size_t pause_length);
+
+/*
+ * The next stretch of such a run, from the checkpoint that the stretch before
+ * left. It answers and writes as muntyzhap_start does, and answers 19 for a
+ * checkpoint that is not good. Under one rule, with a budget not below the
+ * steps so far, it answers and writes what muntyzhap_start does with this
+ * budget.
+ *
+ * A checkpoint has to come back as it was written, with the store and the
+ * programme that it was written for: not each that doesn't is refused by 19.
+ * So keep it where nobody else can write. The isolation of full provenance over
+ * several stretches holds where every one ran under it, from a muntyzhap_start
+ * on, and each checkpoint came back so.
+ *
+ * store, store_length: the store sheet. Its values are judged, by 5, and then
+ *   not used: what the slots hold is in old.
+ * programme, programme_length: the programme sheet.
+ * rule: the number of a rule, as of muntyzhap_run. It may be another than
+ *   before: the next step is the first that it judges. Labels of branches are
+ *   kept under every rule.
+ * budget: the most steps of all stretches together, 0 to MUNTYZHAP_MOST_BUDGET.
+ *   One at or below the steps so far gives 17 at once, and the checkpoint as it
+ *   was.
+ * old, old_length: the output of the stretch before. Only read.
+ * sheet, sheet_length: its pause sheet. Only read.
+ * out, out_length: the output, MUNTYZHAP_SLOT_BYTES for each slot.
+ * pause, pause_length: the pause sheet, MUNTYZHAP_PAUSE_BYTES.
+ */
+struct muntyzhap_answer
+muntyzhap_carry_on(const uint8_t *store, size_t store_length,
+                   const uint8_t *programme, size_t programme_length,
+                   uint32_t rule, uint32_t budget, const uint8_t *old,
+                   size_t old_length, const uint8_t *sheet, size_t sheet_length,
+                   uint8_t *out, size_t out_length, uint8_t *pause,
+                   size_t pause_length);
 
 #ifdef __cplusplus
 }

@@ -1,7 +1,9 @@
 /* Calls at their edges. A rule is passed as an int, as a C program or a script
  * may have it: no byte of it is cut off. What has no bytes may be NULL. A
- * journal may have any length; a refusal leaves every byte of output and journal
- * as it was, and a run that finishes every byte past its entries. */
+ * journal may have any length; a refusal leaves every byte of output and
+ * journal as it was, and a run that finishes every byte past its entries. A run
+ * that is paused writes output and pause sheet, and one that finishes leaves
+ * every byte of the pause sheet as it was. */
 #include "sheets.h"
 
 #include <inttypes.h>
@@ -137,6 +139,72 @@ static void try_journals(void)
     }
 }
 
+/* What a stretch was lent, with a mark in every byte, and a byte too many. */
+struct stretch {
+    uint8_t out[OUT_BYTES];
+    uint8_t pause[MUNTYZHAP_PAUSE_BYTES + 1];
+};
+
+static void say_written(const struct stretch *lent)
+{
+    printf("  output %s, pause sheet %s\n",
+           untouched(lent->out, sizeof lent->out) ? "untouched" : "written",
+           untouched(lent->pause, sizeof lent->pause) ? "untouched"
+                                                      : "written");
+}
+
+/* A first stretch of the two writes, with a pause sheet of this length. */
+static struct stretch start(const char *name, uint32_t budget, size_t length)
+{
+    const struct bytes store = store_sheet(slots, SLOTS);
+    const struct bytes programme = writing();
+    struct stretch lent;
+
+    memset(&lent, MARK, sizeof lent);
+    say(name,
+        muntyzhap_start(store.at, store.length, programme.at, programme.length,
+                        MUNTYZHAP_DEFAULT, budget, lent.out, sizeof lent.out,
+                        length > 0 ? lent.pause : NULL, length)
+            .number);
+    say_written(&lent);
+    return lent;
+}
+
+/* The next stretch from this output and pause sheet, which may be NULL. */
+static void carry_on(const char *name, uint32_t budget, const uint8_t *out,
+                     const uint8_t *pause)
+{
+    const struct bytes store = store_sheet(slots, SLOTS);
+    const struct bytes programme = writing();
+    struct stretch lent;
+
+    memset(&lent, MARK, sizeof lent);
+    say(name, muntyzhap_carry_on(
+                  store.at, store.length, programme.at, programme.length,
+                  MUNTYZHAP_DEFAULT, budget, out, out == NULL ? 0 : OUT_BYTES,
+                  pause, pause == NULL ? 0 : MUNTYZHAP_PAUSE_BYTES, lent.out,
+                  sizeof lent.out, lent.pause, MUNTYZHAP_PAUSE_BYTES)
+                  .number);
+    say_written(&lent);
+}
+
+static void try_pauses(void)
+{
+    struct stretch paused;
+
+    start("pause sheet NULL", 1, 0);
+    start("pause sheet of 255 bytes", 1, MUNTYZHAP_PAUSE_BYTES - 1);
+    start("pause sheet of 257 bytes", 1, MUNTYZHAP_PAUSE_BYTES + 1);
+    start("budget for all", WRITES, MUNTYZHAP_PAUSE_BYTES);
+    paused = start("budget for one write", 1, MUNTYZHAP_PAUSE_BYTES);
+    carry_on("carried on with budget 0", 0, paused.out, paused.pause);
+    carry_on("carried on to the end", WRITES, paused.out, paused.pause);
+    carry_on("old output NULL", WRITES, NULL, paused.pause);
+    carry_on("old pause sheet NULL", WRITES, paused.out, NULL);
+    paused.pause[MUNTYZHAP_PAUSE_BYTES - 1] = 1;
+    carry_on("an unused byte altered", WRITES, paused.out, paused.pause);
+}
+
 int main(void)
 {
     const struct bytes none = programme_sheet(NULL, 0);
@@ -144,5 +212,6 @@ int main(void)
     try_rules(&none);
     try_null(&none);
     try_journals();
+    try_pauses();
     return EXIT_SUCCESS;
 }

@@ -5,7 +5,9 @@ use muntyzhap::BuildError;
 use crate::floors::of_floors;
 use crate::journals::{of_journals, Ending};
 use crate::operations::{counting, of_expressions};
+use crate::pauses::{of_pauses, of_slices};
 use crate::runners::Lent;
+use crate::stretches::{Paused, Sliced};
 use crate::timing::Case;
 use crate::workloads::{full_sheets, of_long_steps, of_skipping, of_skips, of_speed, Workload};
 
@@ -24,6 +26,8 @@ pub struct Workloads {
     expressions: Vec<Workload>,
     floors: [Workload; 2],
     endings: Vec<Ending>,
+    pauses: Vec<Workload>,
+    slices: Vec<Workload>,
 }
 
 impl Workloads {
@@ -40,6 +44,8 @@ impl Workloads {
             expressions: of_expressions()?,
             floors: of_floors()?,
             endings: of_journals()?,
+            pauses: of_pauses()?,
+            slices: of_slices()?,
         })
     }
 }
@@ -96,6 +102,10 @@ pub struct Cases<'a> {
     pub floor: Vec<Case<'a>>,
     /// (l).
     pub ended: Vec<Ended<'a>>,
+    /// (m).
+    pub paused: Vec<Paused<'a>>,
+    /// (n).
+    pub sliced: Vec<Sliced<'a>>,
 }
 
 impl<'a> Cases<'a> {
@@ -115,6 +125,8 @@ impl<'a> Cases<'a> {
             owner: under_rules([owner], lent),
             floor: under_rules([floor], lent),
             ended: ended_under_rules(&workloads.endings, lent),
+            paused: workloads.pauses.iter().map(Paused::new).collect(),
+            sliced: workloads.slices.iter().map(Sliced::new).collect(),
         }
     }
 
@@ -147,6 +159,8 @@ impl<'a> Cases<'a> {
         let all = all.chain(ended.flat_map(Ended::all_mut));
         let timed = all.filter(|case| round < case.workload.rounds);
         timed.for_each(|case| case.repeat(lent));
+        self.paused.iter_mut().for_each(Paused::repeat);
+        self.sliced.iter_mut().for_each(Sliced::repeat);
     }
 }
 

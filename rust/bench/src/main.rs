@@ -3,7 +3,8 @@
 //!
 //! For each workload and rule it prints the best time of each runner, per step
 //! or per run, and their ratio; then how they stand to the demands, the check
-//! of full-size sheets, what a journal costs, and the worst step and call found.
+//! of full-size sheets, what a journal costs, what it takes to pause a run and to
+//! carry it on, and the worst step and call found.
 //! No time changes its exit status.
 //!
 //! A run that finishes is played twice, the second time up to its last write, to
@@ -18,10 +19,12 @@ mod code;
 mod floors;
 mod journals;
 mod operations;
+mod pauses;
 mod python;
 mod report;
 mod runners;
 mod sheets;
+mod stretches;
 mod timing;
 mod workloads;
 

@@ -2,6 +2,7 @@
 
 use crate::cases::{Cases, Ended};
 use crate::python::Python;
+use crate::stretches::SLICE;
 use crate::timing::Case;
 use crate::workloads::Unit;
 
@@ -18,6 +19,9 @@ const MOST_EVALUATION: f64 = 1.0;
 /// The most that the proved runner's time of a finished run may be of the second
 /// one's, each with its journal. Half is aimed at.
 const MOST_WITH_JOURNAL: f64 = 0.6;
+/// The longest that it may take to take a run up and to write its checkpoint, in
+/// microseconds.
+const MOST_PAUSING: f64 = 1000.0;
 
 const HEADING: &str = "time in ns                     rule       proved       second  ratio  for";
 
@@ -31,6 +35,8 @@ pub fn lines(cases: &Cases, python: Option<&Python>) -> Vec<String> {
     lines.extend(of_expressions(cases));
     lines.extend(of_floors(cases));
     lines.extend(of_journals(cases));
+    lines.extend(of_pauses(cases));
+    lines.extend(of_slices(cases));
     let step = worst(cases, Case::proved).map(time_of);
     lines.extend(step.map(|step| format!("worst step found: {step}")));
     let call = worst(cases, Case::whole).map(call_of);
@@ -118,6 +124,32 @@ fn of_journals(cases: &Cases) -> Vec<String> {
     lines
 }
 
+/// (m). A call that is carried on with no steps left takes a run up and writes its
+/// checkpoint.
+fn of_pauses(cases: &Cases) -> Vec<String> {
+    let heading = "m: to write a checkpoint, and to take a run up and write one, in µs".to_string();
+    let times = cases.paused.iter().map(|paused| {
+        let (name, reading) = (&paused.workload.name, paused.reading() / 1e3);
+        let times = [paused.writing(), paused.both()];
+        let [writing, both] = times.map(|time| judged(time / 1e3, MOST_PAUSING));
+        format!("   {name}: {writing}; {both}; beside {reading:.2} to read the sheets")
+    });
+    [heading].into_iter().chain(times).collect()
+}
+
+/// (n). No bound is set.
+fn of_slices(cases: &Cases) -> Vec<String> {
+    let heading = format!("n: the time of a run in slices of {SLICE} steps to that in one go");
+    let times = cases.sliced.iter().map(|sliced| {
+        let (name, more) = (&sliced.workload.name, sliced.more_a_slice() / 1e3);
+        format!(
+            "   {name}: {:.2}, {more:.2} µs more a slice",
+            sliced.quotient()
+        )
+    });
+    [heading].into_iter().chain(times).collect()
+}
+
 /// What a finished run takes beside the same run refused, and what of it each
 /// write costs.
 fn second_pass(ended: &Ended) -> String {
@@ -184,11 +216,15 @@ fn whole_runs(case: &Case) -> String {
 }
 
 fn verdict(case: &Case, value: f64, most: f64) -> String {
+    let (name, rule) = (&case.workload.name, case.rule);
+    format!("   {name}, rule {rule}: {}", judged(value, most))
+}
+
+fn judged(value: f64, most: f64) -> String {
     let standing = if value <= most {
         "at or below"
     } else {
         "ABOVE"
     };
-    let (name, rule) = (&case.workload.name, case.rule);
-    format!("   {name}, rule {rule}: {value:.2}, {standing} {most}")
+    format!("{value:.2}, {standing} {most}")
 }

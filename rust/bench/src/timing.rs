@@ -17,10 +17,51 @@ pub struct Case<'a> {
     pub rule: u32,
     /// The steps of one run, by each runner.
     steps: [u32; 2],
-    /// The runs of a repetition, by each runner.
-    runs: [u32; 2],
-    /// The time of one run in nanoseconds, by each runner.
-    best: [f64; 2],
+    /// The time of one run, by each runner.
+    best: [Best; 2],
+}
+
+/// The best time of a call so far.
+#[derive(Clone, Copy)]
+pub struct Best {
+    /// The calls of a repetition.
+    calls: u32,
+    nanoseconds: f64,
+}
+
+impl Best {
+    /// None so far.
+    const NEVER: Best = Best {
+        calls: 1,
+        nanoseconds: f64::INFINITY,
+    };
+
+    /// With as many calls as make a repetition long enough.
+    pub fn of<T>(mut call: impl FnMut() -> T) -> Best {
+        let mut best = Best::NEVER;
+        while best.time_of(&mut call) < LEAST {
+            best.calls *= 2;
+        }
+        best
+    }
+
+    /// Times one repetition.
+    pub fn repeat<T>(&mut self, call: impl FnMut() -> T) {
+        let time = self.time_of(call).as_secs_f64() * 1e9;
+        self.nanoseconds = self.nanoseconds.min(time / f64::from(self.calls));
+    }
+
+    fn time_of<T>(self, mut call: impl FnMut() -> T) -> Duration {
+        let start = Instant::now();
+        for _ in 0..self.calls {
+            black_box(call());
+        }
+        start.elapsed()
+    }
+
+    pub fn nanoseconds(self) -> f64 {
+        self.nanoseconds
+    }
 }
 
 impl<'a> Case<'a> {
@@ -30,15 +71,15 @@ impl<'a> Case<'a> {
             workload,
             rule,
             steps: [0; 2],
-            runs: [1; 2],
-            best: [f64::INFINITY; 2],
+            best: [Best::NEVER; 2],
         };
         let budgets = case.budgets();
         let second = case.agreed_steps(budgets[1], lent);
         let proved = case.play(RUNNERS[0], budgets[0], lent);
         case.judge(proved);
         case.steps = [proved.steps, second];
-        case.runs = [0, 1].map(|place| case.enough_runs(RUNNERS[place], budgets[place], lent));
+        case.best =
+            [0, 1].map(|place| Best::of(|| case.play(RUNNERS[place], budgets[place], lent)));
         case
     }
 
@@ -69,30 +110,13 @@ impl<'a> Case<'a> {
         assert!(played, "{name}: refused by {number}");
     }
 
-    /// How many runs make a repetition long enough.
-    fn enough_runs(&self, runner: Runner, budget: u32, lent: &mut Lent) -> u32 {
-        let mut runs = 1;
-        while self.time_of(runner, budget, runs, lent) < LEAST {
-            runs *= 2;
-        }
-        runs
-    }
-
     /// Times one repetition of each runner, in turn.
     pub fn repeat(&mut self, lent: &mut Lent) {
         for (place, runner) in RUNNERS.into_iter().enumerate() {
-            let (runs, budget) = (self.runs[place], self.budgets()[place]);
-            let time = self.time_of(runner, budget, runs, lent).as_secs_f64() * 1e9;
-            self.best[place] = self.best[place].min(time / f64::from(runs));
+            let (mut best, budget) = (self.best[place], self.budgets()[place]);
+            best.repeat(|| self.play(runner, budget, lent));
+            self.best[place] = best;
         }
-    }
-
-    fn time_of(&self, runner: Runner, budget: u32, runs: u32, lent: &mut Lent) -> Duration {
-        let start = Instant::now();
-        for _ in 0..runs {
-            black_box(self.play(runner, budget, lent));
-        }
-        start.elapsed()
     }
 
     fn play(&self, runner: Runner, budget: u32, lent: &mut Lent) -> Answer {
@@ -113,12 +137,12 @@ impl<'a> Case<'a> {
 
     /// The best time of a step or a run by the proved runner, in nanoseconds.
     pub fn proved(&self) -> f64 {
-        self.best[0] / self.units(0)
+        self.best[0].nanoseconds() / self.units(0)
     }
 
     /// The same by the second runner.
     pub fn second(&self) -> f64 {
-        self.best[1] / self.units(1)
+        self.best[1].nanoseconds() / self.units(1)
     }
 
     pub fn ratio(&self) -> f64 {
@@ -134,11 +158,11 @@ impl<'a> Case<'a> {
 
     /// The proved runner's time of a whole call, in nanoseconds.
     pub fn whole(&self) -> f64 {
-        self.best[0]
+        self.best[0].nanoseconds()
     }
 
     /// Whole runs a second, by each runner.
     pub fn runs_a_second(&self) -> [f64; 2] {
-        self.best.map(|time| 1e9 / time)
+        self.best.map(|best| 1e9 / best.nanoseconds())
     }
 }

@@ -246,7 +246,7 @@ fn guards_that_jump() -> Result<Workload, BuildError> {
 
 /// 720 assignments, each of another slot, so that the tables' rows are not
 /// near each other.
-fn many_slots() -> Result<Workload, BuildError> {
+pub fn many_slots() -> Result<Workload, BuildError> {
     let values: Vec<Value> = (0..=u8::MAX)
         .map(|slot| Value::Integer(slot.into()))
         .collect();

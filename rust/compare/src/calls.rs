@@ -1,8 +1,10 @@
 //! Calls that both runners get, and what is seen of each.
 
 mod difference;
+mod stretch;
 
 pub use self::difference::Difference;
+pub use self::stretch::{Stretch, StretchRunner};
 
 use crate::answers::Answer;
 use crate::journals::{self, walk, Journal, Words};
@@ -25,6 +27,7 @@ pub enum Call {
         slots: usize,
     },
     Run(Run),
+    Stretch(Stretch),
 }
 
 /// One whole run.
@@ -39,13 +42,14 @@ pub struct Run {
     pub journal_length: usize,
 }
 
-/// What can be seen of a call: its answer, every byte of the output, and the
-/// journal.
+/// What can be seen of a call: its answer, every byte of the output and of the pause
+/// buffer, and the journal.
 #[derive(Debug, Clone, PartialEq, Eq)]
 pub struct Seen {
     pub answer: Answer,
     output: Lent,
     pub journal: Journal,
+    pause: Lent,
 }
 
 impl Seen {
@@ -54,6 +58,7 @@ impl Seen {
             answer,
             output: Lent::new(0),
             journal: Journal::none(),
+            pause: Lent::new(0),
         }
     }
 
@@ -62,8 +67,7 @@ impl Seen {
     }
 
     pub fn output(&self) -> &[u8] {
-        let end = self.output.bytes.len() - Lent::MARGIN;
-        &self.output.bytes[Lent::MARGIN..end]
+        self.output.lent()
     }
 
     /// What goes against the documents in what this run left, in words.
@@ -76,9 +80,7 @@ impl Seen {
                 Ok(()) => "entries past the writes are not as lent",
             },
             _ if !journal.is_untouched() => "refused, and the journal is not as lent",
-            _ if self.output != Lent::new(run.output_length) => {
-                "refused, and the output is not as lent"
-            }
+            _ if !self.output.is_untouched() => "refused, and the output is not as lent",
             _ => return None,
         };
         Some(words.to_string())
@@ -107,10 +109,33 @@ impl Lent {
         let end = self.bytes.len() - Lent::MARGIN;
         &mut self.bytes[Lent::MARGIN..end]
     }
+
+    fn lent(&self) -> &[u8] {
+        let end = self.bytes.len() - Lent::MARGIN;
+        &self.bytes[Lent::MARGIN..end]
+    }
+
+    fn is_untouched(&self) -> bool {
+        *self == Lent::new(self.lent().len())
+    }
 }
 
 /// A way to run: the run, with the output and the journal that are lent.
 pub type Runner = fn(&Run, &mut [u8], &mut [Words]) -> Answer;
+
+/// What stands for the proved runner.
+#[derive(Debug, Clone, Copy)]
+pub struct Runners {
+    pub run: Runner,
+    pub stretch: StretchRunner,
+}
+
+impl Runners {
+    pub const PROVED: Runners = Runners {
+        run: proved::run,
+        stretch: proved::stretch,
+    };
+}
 
 impl Run {
     fn by(&self, runner: Runner) -> Seen {
@@ -121,6 +146,7 @@ impl Run {
             answer,
             output,
             journal: journal.seen(),
+            pause: Lent::new(0),
         }
     }
 
@@ -132,12 +158,12 @@ impl Run {
 impl Call {
     /// What both runners do, if it is the same and as it should be.
     pub fn compare(&self) -> Result<Seen, Box<Difference>> {
-        self.compare_to(proved::run)
+        self.compare_to(Runners::PROVED)
     }
 
     /// The same with another runner in place of the proved one.
-    pub fn compare_to(&self, runner: Runner) -> Result<Seen, Box<Difference>> {
-        let (proved, second) = (self.proved(runner), self.second());
+    pub fn compare_to(&self, runners: Runners) -> Result<Seen, Box<Difference>> {
+        let (proved, second) = (self.proved(runners), self.second());
         let fault = match proved.answer == second.answer {
             true => self.fault(&proved).or_else(|| self.fault(&second)),
             false => None,
@@ -147,7 +173,7 @@ impl Call {
         }
         Err(Box::new(Difference {
             call: self.clone(),
-            runner,
+            runners,
             proved,
             second,
             fault,
@@ -157,11 +183,12 @@ impl Call {
     fn fault(&self, seen: &Seen) -> Option<String> {
         match self {
             Call::Run(run) => seen.fault(run),
+            Call::Stretch(stretch) => stretch.fault(seen),
             _ => None,
         }
     }
 
-    fn proved(&self, runner: Runner) -> Seen {
+    fn proved(&self, runners: Runners) -> Seen {
         match self {
             Call::CheckStore { sheet } => Seen::number(proved::check_store(sheet)),
             Call::CheckTable { sheet } => Seen::number(proved::check_table(sheet)),
@@ -170,7 +197,8 @@ impl Call {
                 principals,
                 slots,
             } => Seen::answer(proved::check_programme(sheet, *principals, *slots)),
-            Call::Run(run) => run.by(runner),
+            Call::Run(run) => run.by(runners.run),
+            Call::Stretch(stretch) => stretch.by(runners.stretch),
         }
     }
 
@@ -184,6 +212,7 @@ impl Call {
                 slots,
             } => Seen::answer(second::check_programme(sheet, *principals, *slots)),
             Call::Run(run) => run.second(),
+            Call::Stretch(stretch) => stretch.second(),
         }
     }
 
@@ -192,6 +221,7 @@ impl Call {
         match self {
             Call::CheckStore { sheet } => Some(sheet),
             Call::Run(run) => Some(&run.store),
+            Call::Stretch(stretch) => Some(&stretch.store),
             _ => None,
         }
     }
@@ -201,6 +231,7 @@ impl Call {
         match self {
             Call::CheckProgramme { sheet, .. } => Some(sheet),
             Call::Run(run) => Some(&run.programme),
+            Call::Stretch(stretch) => Some(&stretch.programme),
             _ => None,
         }
     }
@@ -211,6 +242,7 @@ impl Call {
         match &mut call {
             Call::CheckStore { sheet } => *sheet = store,
             Call::Run(run) => run.store = store,
+            Call::Stretch(stretch) => stretch.store = store,
             _ => (),
         }
         call
@@ -222,6 +254,7 @@ impl Call {
         match &mut call {
             Call::CheckProgramme { sheet, .. } => *sheet = programme,
             Call::Run(run) => run.programme = programme,
+            Call::Stretch(stretch) => stretch.programme = programme,
             _ => (),
         }
         call

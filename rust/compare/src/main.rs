@@ -3,6 +3,7 @@
 //!     compare sheets [--seed S] [--count N]
 //!     compare runs   [--seed S] [--count N]
 //!     compare pairs  [--seed S] [--count N]
+//!     compare stretches [--seed S] [--count N]
 //!     compare prints [--seed S] [--count N]
 //!
 //! The same seed and count give the same play. It ends with status 0 when the
@@ -20,6 +21,7 @@ mod author;
 mod blockrun;
 mod budgets;
 mod calls;
+mod checkpoints;
 mod code;
 mod damage;
 mod decode;
@@ -42,6 +44,7 @@ mod play_pairs;
 mod play_prints;
 mod play_runs;
 mod play_sheets;
+mod play_stretches;
 #[cfg(feature = "proved")]
 mod proved;
 #[cfg(not(feature = "proved"))]
@@ -63,16 +66,18 @@ use std::process::ExitCode;
 
 use crate::calls::Difference;
 use crate::play_pairs::Stopped;
+use crate::play_stretches::Stopped as StretchStopped;
 use crate::tally::Tally;
 
 const DEFAULT_SEED: u64 = 1;
-const USAGE: &str = "usage: compare sheets|runs|pairs|prints [--seed S] [--count N]";
+const USAGE: &str = "usage: compare sheets|runs|pairs|stretches|prints [--seed S] [--count N]";
 
 #[derive(Debug, Clone, Copy)]
 enum Play {
     Sheets,
     Runs,
     Pairs,
+    Stretches,
     Prints,
 }
 
@@ -82,17 +87,19 @@ impl Play {
             "sheets" => Some(Play::Sheets),
             "runs" => Some(Play::Runs),
             "pairs" => Some(Play::Pairs),
+            "stretches" => Some(Play::Stretches),
             "prints" => Some(Play::Prints),
             _ => None,
         }
     }
 
-    /// So many of all four take about a minute together.
+    /// So many of all five take about three minutes together.
     fn default_count(self) -> u64 {
         match self {
             Play::Sheets => 240_000,
             Play::Runs => 60_000,
             Play::Pairs => 60_000,
+            Play::Stretches => 6_000,
             Play::Prints => 6_000,
         }
     }
@@ -178,6 +185,7 @@ fn main() -> ExitCode {
         Play::Sheets => play_sheets(seed, count),
         Play::Runs => play_runs(seed, count),
         Play::Pairs => play_pairs(seed, count),
+        Play::Stretches => play_stretches(seed, count),
         Play::Prints => play_prints(seed, count),
     };
     if let Err(error) = report.write_to(&mut io::stdout()) {
@@ -239,6 +247,24 @@ fn play_pairs(seed: u64, count: u64) -> Report {
                 "protected slots differ and end alike:\n{one}{other}"
             ));
         }
+    }
+    report
+}
+
+fn play_stretches(seed: u64, count: u64) -> Report {
+    let mut report = Report::default();
+    match play_stretches::play(seed, count) {
+        Ok(played) => {
+            let calls: u64 = played.tallies().iter().map(|tally| tally.total()).sum();
+            report.say(format!(
+                "{count} pairs of sheets of seed {seed}, {calls} stretches: no difference"
+            ));
+            report.say_answers(&played.tallies());
+            report.say_all(played.lines());
+            report.complaints = played.complaints();
+        }
+        Err(StretchStopped::Differs(difference)) => report.differs(*difference),
+        Err(StretchStopped::Parts(parting)) => report.complaints.push(parting.to_string()),
     }
     report
 }

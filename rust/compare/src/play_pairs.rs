@@ -15,11 +15,15 @@
 //!
 //! The demand is also played with a condition left out. Then some pairs must
 //! leave a protected slot differently, or the condition would not be needed.
+//!
+//! Some pairs are also played in stretches of random budgets (`stretched`).
 
+mod chains;
 mod counts;
 mod endorsed;
 mod making;
 mod pair;
+mod stretched;
 mod tainted;
 mod terms;
 mod traces;
@@ -38,6 +42,9 @@ pub enum Stopped {
     /// Runs that demand 3 says end differently don't.
     Hides(Box<[Call; 2]>),
 }
+
+/// One pair of so many is played in stretches too.
+const ONE_IN_STRETCHES: u64 = 10;
 
 /// Plays so many pairs under each rule, without each of the conditions, and
 /// back.
@@ -63,6 +70,9 @@ pub fn play(seed: u64, count: u64) -> Result<Played, Stopped> {
             }
             played.shown += 1;
             played.shown_by_high_bytes += u64::from(pair.opens_apart_by_high_bytes());
+        }
+        if case % ONE_IN_STRETCHES == 0 {
+            played.stretched.play(&pair, random)?;
         }
     }
     Ok(played)

@@ -17,7 +17,7 @@ use crate::tally::{Checklist, Tally, NUMBERS};
 use crate::values::{Integer, Kind, ENDS};
 
 /// The program lends an output of the length that the store sheet asks for.
-const IMPOSSIBLE: u32 = 12;
+const IMPOSSIBLE: [u32; 2] = [12, 19];
 
 /// How many principals stand at or above some owners: one at the top, and all
 /// where there are as many as there may be.
@@ -53,11 +53,13 @@ pub struct Played {
 impl Played {
     fn new() -> Played {
         let numbers = 0..NUMBERS as u32;
-        let due: Vec<u32> = numbers.filter(|number| *number != IMPOSSIBLE).collect();
+        let due: Vec<u32> = numbers
+            .filter(|number| !IMPOSSIBLE.contains(number))
+            .collect();
         let kinds = Kind::ALL.map(|kind| kind as u8);
         let digits = 1..=digits(Integer::MAX);
         Played {
-            answers: Tally::new("printed", &due, &[IMPOSSIBLE]),
+            answers: Tally::new("printed", &due, &IMPOSSIBLE),
             ends: Checklist::new("inputs, by where they end", End::ALL),
             slots: Checklist::new("finished runs, by slots", [0, MOST_SLOTS]),
             kinds: Checklist::new("slots, by kind", kinds),

@@ -4,7 +4,7 @@
 use crate::ample::{plain_run, Ample, Spare};
 use crate::author::{Author, Care};
 use crate::budgets::{random_budget, Budgets};
-use crate::calls::{Call, Difference, Run, Runner, Seen};
+use crate::calls::{Call, Difference, Run, Runner, Runners, Seen};
 use crate::code::programme_sheet;
 use crate::damage::damaged;
 use crate::high_bytes::HighBytes;
@@ -32,6 +32,9 @@ pub const RULES: [(u32, &[u32], &[u32]); 5] = [
     (255, &[14, 16], &[15]),
 ];
 
+/// No run in one stretch is refused by what is judged of a checkpoint.
+const OF_CHECKPOINTS: u32 = 19;
+
 /// Counts of each rule, of rule numbers that there are not, of those among them
 /// that are wide, of budgets, of journals, of ill-formed values, of the integers
 /// that runs end with, of code refused in an operand and of steps.
@@ -57,9 +60,10 @@ impl Played {
             let mut all_due: Vec<u32> = (0..=13).collect();
             all_due.extend_from_slice(due);
             all_due.extend([17, 18]);
+            let impossible = [impossible, &[OF_CHECKPOINTS]].concat();
             (
                 rule,
-                Tally::new(&format!("rule {rule}"), &all_due, impossible),
+                Tally::new(&format!("rule {rule}"), &all_due, &impossible),
             )
         };
         let all = 0..NUMBERS as u32;
@@ -123,7 +127,10 @@ impl Played {
     /// Plays a run on this runner and on the second one, and counts it.
     fn play(&mut self, runner: Runner, run: Run) -> Result<(), Box<Difference>> {
         let (rule, call) = (run.rule, Call::Run(run));
-        let seen = call.compare_to(runner)?;
+        let seen = call.compare_to(Runners {
+            run: runner,
+            ..Runners::PROVED
+        })?;
         self.count(rule, &call, &seen);
         Ok(())
     }

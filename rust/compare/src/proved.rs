@@ -5,7 +5,8 @@ use std::mem::offset_of;
 use muntyzhap::raw;
 
 use crate::answers::Answer;
-use crate::calls::Run;
+use crate::calls::{Run, Stretch};
+use crate::checkpoints::Checkpoint;
 use crate::journals::{as_entries, Words};
 
 pub use muntyzhap::raw::{check_store, check_table};
@@ -25,6 +26,29 @@ pub fn run(run: &Run, output: &mut [u8], journal: &mut [Words]) -> Answer {
     } = run;
     let journal = as_entries(journal);
     raw::run(store, programme, *rule, *budget, output, journal).into()
+}
+
+/// A stretch of a run: its start, or what is carried on.
+pub fn stretch(stretch: &Stretch, output: &mut [u8], pause: &mut [u8]) -> Answer {
+    let Stretch {
+        store,
+        programme,
+        rule,
+        budget,
+        old,
+        ..
+    } = stretch;
+    let (rule, budget) = (*rule, *budget);
+    match old {
+        None => raw::start(store, programme, rule, budget, output, pause),
+        Some(Checkpoint {
+            output: old_output,
+            pause: old_pause,
+        }) => raw::carry_on(
+            store, programme, rule, budget, old_output, old_pause, output, pause,
+        ),
+    }
+    .into()
 }
 
 // Both runners' entries have their fields at the same places.

@@ -1,7 +1,8 @@
 //! The second runner, asked in the proved library's way.
 
 use crate::answers::Answer;
-use crate::calls::Run;
+use crate::calls::{Run, Stretch};
+use crate::checkpoints::Checkpoint;
 use crate::journals::{as_entries, Words};
 use crate::outputs::output_length;
 use crate::sheets::plain_store;
@@ -35,4 +36,27 @@ pub fn run_with(run: &Run, output: &mut [u8], journal: &mut [second_runner::Entr
         ..
     } = run;
     second_runner::run(store, programme, *rule, *budget, output, journal).into()
+}
+
+/// A stretch of a run: its start, or what is carried on.
+pub fn stretch(stretch: &Stretch, output: &mut [u8], pause: &mut [u8]) -> Answer {
+    let Stretch {
+        store,
+        programme,
+        rule,
+        budget,
+        old,
+        ..
+    } = stretch;
+    let (rule, budget) = (*rule, *budget);
+    match old {
+        None => second_runner::start(store, programme, rule, budget, output, pause),
+        Some(Checkpoint {
+            output: old_output,
+            pause: old_pause,
+        }) => second_runner::carry_on(
+            store, programme, rule, budget, old_output, old_pause, output, pause,
+        ),
+    }
+    .into()
 }

@@ -3,7 +3,7 @@
 use std::fmt::{self, Display, Formatter};
 
 /// The numbers an answer can have.
-pub const NUMBERS: usize = 19;
+pub const NUMBERS: usize = 20;
 
 /// How often each number was the answer to one sort of call, and which ones
 /// must come up there and which cannot.

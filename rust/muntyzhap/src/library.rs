@@ -29,6 +29,36 @@ extern "C" {
         journal: *mut Entry,
         journal_length: usize,
     ) -> Answer;
+
+    fn muntyzhap_start(
+        store: *const u8,
+        store_length: usize,
+        programme: *const u8,
+        programme_length: usize,
+        rule: u32,
+        budget: u32,
+        out: *mut u8,
+        out_length: usize,
+        pause: *mut u8,
+        pause_length: usize,
+    ) -> Answer;
+
+    fn muntyzhap_carry_on(
+        store: *const u8,
+        store_length: usize,
+        programme: *const u8,
+        programme_length: usize,
+        rule: u32,
+        budget: u32,
+        old: *const u8,
+        old_length: usize,
+        sheet: *const u8,
+        sheet_length: usize,
+        out: *mut u8,
+        out_length: usize,
+        pause: *mut u8,
+        pause_length: usize,
+    ) -> Answer;
 }
 
 /// "Each answer is number, block, offset, steps."
@@ -85,10 +115,10 @@ pub struct Entry {
 }
 
 // Each call below is sound: a slice is handed over as its own pointer and
-// length, no two of the buffers overlap, the library writes nothing but `out`,
-// `journal` and the numbers of the answer, and it keeps no pointer. What comes
-// back are plain integers, in the answer and in the entries too, so nothing that
-// it could answer or write is undefined behaviour.
+// length, no buffer that is written overlaps another, the library writes nothing
+// but `out`, `journal`, `pause` and the numbers of the answer, and it keeps no
+// pointer. What comes back are plain integers, in the answer and in the entries
+// too, so nothing that it could answer or write is undefined behaviour.
 
 /// The refusal of a store sheet, 1 to 5, or 0.
 pub fn check_store(sheet: &[u8]) -> u32 {
@@ -149,6 +179,73 @@ pub fn run(
             out.len(),
             journal.as_mut_ptr(),
             journal.len(),
+        )
+    }
+}
+
+/// The first stretch of a run that can be paused, with no journal. If its answer
+/// is 0, the output is written and the pause buffer left as it was; if it is 17,
+/// the output holds values and counts so far, and the pause buffer the pause
+/// sheet to carry on from. Every other refusal leaves every byte of both as it
+/// was. An output that has not [`Slot::BYTES`](crate::sheet::Slot::BYTES) for
+/// each slot, or a pause buffer that has not
+/// [`Checkpoint::PAUSE_BYTES`](crate::Checkpoint::PAUSE_BYTES), is refused by 12.
+pub fn start(
+    store: &[u8],
+    programme: &[u8],
+    rule: u32,
+    budget: u32,
+    out: &mut [u8],
+    pause: &mut [u8],
+) -> Answer {
+    unsafe {
+        muntyzhap_start(
+            store.as_ptr(),
+            store.len(),
+            programme.as_ptr(),
+            programme.len(),
+            rule,
+            budget,
+            out.as_mut_ptr(),
+            out.len(),
+            pause.as_mut_ptr(),
+            pause.len(),
+        )
+    }
+}
+
+/// The next stretch of a run over the same store and programme, from the output
+/// and the pause sheet of the stretch before. The budget includes the steps so
+/// far; one at or below them is answered by 17 at once. What is answered and
+/// written is as of [`start`]; the lengths of the old output and sheet are judged
+/// too (12), and then what they hold (19).
+#[allow(clippy::too_many_arguments)]
+pub fn carry_on(
+    store: &[u8],
+    programme: &[u8],
+    rule: u32,
+    budget: u32,
+    old_out: &[u8],
+    old_pause: &[u8],
+    out: &mut [u8],
+    pause: &mut [u8],
+) -> Answer {
+    unsafe {
+        muntyzhap_carry_on(
+            store.as_ptr(),
+            store.len(),
+            programme.as_ptr(),
+            programme.len(),
+            rule,
+            budget,
+            old_out.as_ptr(),
+            old_out.len(),
+            old_pause.as_ptr(),
+            old_pause.len(),
+            out.as_mut_ptr(),
+            out.len(),
+            pause.as_mut_ptr(),
+            pause.len(),
         )
     }
 }

@@ -25,7 +25,9 @@ pub struct Stop {
     pub steps: u32,
 }
 
-/// Why a call was refused. Output and journal are then as they were.
+/// Why a call was refused. Whatever it was lent is then as it was. That a budget
+/// is spent (17) is a refusal of [`run`](crate::run) alone: [`start`](crate::start)
+/// and [`carry_on`](crate::carry_on) give a checkpoint.
 #[derive(Debug, Clone, Copy, PartialEq, Eq)]
 pub enum Refusal {
     /// 1, by the store sheet.
@@ -70,6 +72,12 @@ pub enum Refusal {
     /// entry left for it. The budget is judged before, the assignment's target
     /// after.
     JournalFull(Stop),
+    /// 19, by the caller: what is to be carried on from is not good. Its path
+    /// leads to no assignment, if or while of the programme; a label on it does not
+    /// stand at or below the one outside, or in a sequence is another; an unused
+    /// byte is not 0; a value is ill-formed; or counts add up to more than the
+    /// steps. Which of these, the answer does not tell.
+    Checkpoint,
     /// A number that document 01 does not have. The library is proved never to
     /// answer one; a later one may have numbers of its own. Whatever is not 0
     /// did not finish, so it is a refusal and never taken for another.
@@ -108,6 +116,7 @@ impl Refusal {
             16 => Refusal::ProvenanceTooLow(stop),
             17 => Refusal::BudgetSpent(stop),
             18 => Refusal::JournalFull(stop),
+            19 => Refusal::Checkpoint,
             _ => Refusal::Unknown(answer),
         })
     }
@@ -133,6 +142,7 @@ impl Refusal {
             Refusal::ProvenanceTooLow(_) => 16,
             Refusal::BudgetSpent(_) => 17,
             Refusal::JournalFull(_) => 18,
+            Refusal::Checkpoint => 19,
             Refusal::Unknown(answer) => answer.number,
         }
     }
@@ -187,7 +197,7 @@ mod tests {
     use super::*;
     use crate::code::{MOST_DEPTH, MOST_NESTED};
     use crate::sheet::{Slot, MOST_BLOCKS, MOST_CODE, MOST_PRINCIPALS, MOST_SLOTS};
-    use crate::MOST_BUDGET;
+    use crate::{Checkpoint, MOST_BUDGET};
 
     fn answer(number: u32) -> Answer {
         Answer {
@@ -205,7 +215,7 @@ mod tests {
     #[test]
     fn each_number_has_its_refusal_and_its_own_words() {
         assert_eq!(Refusal::from_answer(answer(0)), None);
-        let mut meanings: Vec<&str> = (1..=19)
+        let mut meanings: Vec<&str> = (1..=20)
             .map(|number| {
                 assert_eq!(refusal(number).number(), number);
                 refusal(number).meaning()
@@ -213,7 +223,7 @@ mod tests {
             .collect();
         meanings.sort();
         meanings.dedup();
-        assert_eq!(meanings.len(), 19, "{meanings:?}");
+        assert_eq!(meanings.len(), 20, "{meanings:?}");
     }
 
     #[test]
@@ -222,8 +232,8 @@ mod tests {
             block: 3,
             offset: 44,
         };
-        for number in 1..=18 {
-            let (refusal, running) = (refusal(number), number >= 13);
+        for number in 1..=19 {
+            let (refusal, running) = (refusal(number), (13..=18).contains(&number));
             let placed = running || matches!(number, 9 | 10);
             assert_eq!(refusal.place(), placed.then_some(place), "{number}");
             assert_eq!(refusal.stop().is_some(), running, "{number}");
@@ -251,6 +261,7 @@ mod tests {
             (10, MOST_NESTED),
             (11, MOST_BUDGET as usize),
             (12, Slot::BYTES),
+            (12, Checkpoint::PAUSE_BYTES),
         ];
         for (number, limit) in limits {
             let meaning = refusal(number).meaning().replace(',', "");
@@ -261,7 +272,7 @@ mod tests {
 
     #[test]
     fn a_number_that_is_not_known_is_a_refusal_of_its_own() {
-        for number in [19, 255, u32::MAX] {
+        for number in [20, 255, u32::MAX] {
             assert_eq!(refusal(number), Refusal::Unknown(answer(number)));
             let words = refusal(number).to_string();
             let expected = format!("refused by {number}: a number that this wrapper does not know");

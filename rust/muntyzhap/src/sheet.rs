@@ -108,9 +108,9 @@ pub fn output_bytes(store: &[u8]) -> usize {
 }
 
 /// The slots of an end store: their owners from the store sheet, their values
-/// and counts of writes from what a finished run wrote. None where the sheet has
-/// no owner for each slot, the output isn't of its length, or an owner or a
-/// value is ill-formed.
+/// and counts of writes from what a finished run wrote, or a paused one. None
+/// where the sheet has no owner for each slot, the output isn't of its length, or
+/// an owner or a value is ill-formed.
 pub fn end_store(store: &[u8], out: &[u8]) -> Option<Vec<Slot>> {
     let (principals, slots) = sizes(store)?;
     let first = SIZES + principals * MASK_BYTES;

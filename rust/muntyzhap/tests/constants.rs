@@ -7,7 +7,7 @@ use muntyzhap::code::{
     CommandKind, DIFFERENCE, EQUAL, LESS_THAN, LITERAL, MOST_DEPTH, MOST_NESTED, READ, SUM,
 };
 use muntyzhap::sheet::{Block, Slot, MOST_BLOCKS, MOST_CODE, MOST_PRINCIPALS, MOST_SLOTS};
-use muntyzhap::{Place, Refusal, Rule, Stop, Value, MOST_BUDGET};
+use muntyzhap::{Checkpoint, Place, Refusal, Rule, Stop, Value, MOST_BUDGET};
 
 const HEADER: &str = include_str!("../../../include/muntyzhap.h");
 
@@ -68,6 +68,7 @@ fn refusals() -> Vec<(&'static str, u64)> {
         ("PROVENANCE_TOO_LOW", Refusal::ProvenanceTooLow(stop)),
         ("BUDGET_SPENT", Refusal::BudgetSpent(stop)),
         ("JOURNAL_FULL", Refusal::JournalFull(stop)),
+        ("CHECKPOINT", Refusal::Checkpoint),
     ];
     let numbered = named.map(|(name, refusal)| (name, refusal.number().into()));
     [&[("FINISHED", 0)], numbered.as_slice()].concat()
@@ -93,6 +94,8 @@ fn rules_and_limits() -> Vec<(&'static str, u64)> {
         ("PAYLOAD_BYTES", Value::PAYLOAD_BYTES),
         ("COUNT_BYTES", Slot::COUNT_BYTES),
         ("SLOT_BYTES", Slot::BYTES),
+        ("PAUSE_BYTES", Checkpoint::PAUSE_BYTES),
+        ("STEPS_BYTES", Checkpoint::STEPS_BYTES),
     ];
     let rules = rules.map(|(name, rule)| (name, rule.number().into()));
     let limits = limits.map(|(name, limit)| (name, limit as u64));

@@ -1,7 +1,10 @@
-//! What README shows of the wrapper, of order tables and of operations.
+//! What README shows of the wrapper, of order tables, of operations and of pauses.
 
-use muntyzhap::code::{assign, difference, read};
-use muntyzhap::{check_store, Refusal};
+mod parts;
+
+use muntyzhap::code::{assign, difference, if_command, read, sequence, skip};
+use muntyzhap::{check_store, start, Outcome, Refusal, Rule, Value};
+use parts::{built, integer, programme_by, slot, store_of, truth, HIGH, LOW, MASKS};
 
 const README: &str = include_str!("../../../README.md");
 const CRATE: &str = include_str!("../src/lib.rs");
@@ -30,20 +33,29 @@ fn bytes(line: &str) -> Vec<u8> {
     places.map(byte).collect::<Result<_, _>>().expect("digits")
 }
 
-/// The lines of the crate's example that its documentation shows.
-fn documented() -> Vec<&'static str> {
-    let lines = CRATE.lines().skip_while(|line| *line != "//! ```");
+/// The lines that the crate's documentation shows of its first example after this
+/// line.
+fn documented_after(line: &str) -> Vec<&'static str> {
+    let lines = CRATE.lines().skip_while(|other| *other != line);
+    let lines = lines.skip_while(|line| *line != "//! ```");
     let example = lines.skip(1).take_while(|line| *line != "//! ```");
     let example = example.filter_map(|line| line.strip_prefix("//! "));
     example.filter(|line| !line.starts_with("# ")).collect()
 }
 
-/// So that it is compiled and run, as the crate's own example is.
+/// So that they are compiled and run, as the crate's own examples are.
 #[test]
-fn the_example_in_rust_is_the_crate_s() {
-    let shown = indented_from(README.lines(), "use muntyzhap::");
-    assert!(shown.len() > 10, "{shown:?}");
-    assert_eq!(shown, documented());
+fn the_examples_in_rust_are_the_crate_s() {
+    let whole = "//! The proved runner for Rust programs.";
+    let slices = "//! # Long work in slices";
+    for (start, line) in [
+        ("use muntyzhap::code", whole),
+        ("use muntyzhap::{carry_on", slices),
+    ] {
+        let shown = indented_from(README.lines(), start);
+        assert!(shown.len() > 10, "{shown:?}");
+        assert_eq!(shown, documented_after(line));
+    }
 }
 
 #[test]
@@ -59,4 +71,21 @@ fn the_correction_in_bytes_is_that_of_the_builders() {
     let shown = indented_after("`slot 1 := slot 0 - slot 2` is");
     let age = difference(read(0), read(2)).expect("two deep");
     assert_eq!(bytes(shown[0]), assign(1, age).bytes());
+}
+
+/// if slot 0 then (slot 0 := false; slot 1 := 7) else skip, after two steps.
+#[test]
+fn the_pause_sheet_in_bytes_is_that_of_the_library() {
+    let shown = bytes(indented_after("the used bytes are")[0]);
+    let slots = [slot(LOW, Value::Truth(true)), slot(HIGH, Value::Integer(0))];
+    let both = built(sequence(&[assign(0, truth(false)), assign(1, integer(7))]));
+    let programme = programme_by(HIGH, built(if_command(read(0), both, skip())));
+    let store = store_of(&MASKS, &slots);
+    let outcome = start(&store, &programme, Rule::AccessControl, 2);
+    let Ok(Outcome::Paused { checkpoint, .. }) = outcome else {
+        panic!("not paused: {outcome:?}");
+    };
+    let (used, unused) = checkpoint.pause_sheet().split_at(shown.len());
+    assert_eq!(used, shown);
+    assert!(unused.iter().all(|byte| *byte == 0), "{unused:?}");
 }

@@ -50,21 +50,33 @@ fn the_calls_are_read_whole() {
     let functions = of_rattle(&source()).functions;
     let names: Vec<&str> = functions.iter().map(|one| one.name.as_str()).collect();
     let expected = [
+        "muntyzhap_carry_on",
         "muntyzhap_check_programme",
         "muntyzhap_check_store",
         "muntyzhap_check_table",
         "muntyzhap_run",
+        "muntyzhap_start",
     ];
     assert_eq!(names, expected);
+    let carry_on = "store *const u8, store_length usize, programme *const u8, \
+                    programme_length usize, rule u32, budget u32, old *const u8, \
+                    old_length usize, sheet *const u8, sheet_length usize, \
+                    out *mut u8, out_length usize, pause *mut u8, pause_length usize";
+    assert_eq!(listed(&functions[0].parameters), carry_on);
     let check = "sheet *const u8, sheet_length usize, n usize, slots usize, block *mut usize, \
                  offset *mut usize";
-    assert_eq!(listed(&functions[0].parameters), check);
+    assert_eq!(listed(&functions[1].parameters), check);
     let run = "store *const u8, store_length usize, programme *const u8, programme_length usize, \
                rule u32, budget u32, out *mut u8, out_length usize, journal *mut Entry, \
                journal_length usize";
-    assert_eq!(listed(&functions[3].parameters), run);
+    assert_eq!(listed(&functions[4].parameters), run);
+    let start = "store *const u8, store_length usize, programme *const u8, \
+                 programme_length usize, rule u32, budget u32, out *mut u8, out_length usize, \
+                 pause *mut u8, pause_length usize";
+    assert_eq!(listed(&functions[5].parameters), start);
     let results: Vec<&str> = functions.iter().map(|one| one.result.as_str()).collect();
-    assert_eq!(results, ["u32", "u32", "u32", "Answer"]);
+    let answer = "Answer";
+    assert_eq!(results, [answer, "u32", "u32", "u32", answer, answer]);
 }
 
 #[test]
@@ -126,6 +138,9 @@ fn a_changed_definition_is_seen() {
         ("n: usize", "principals: usize"),
         ("[Entry]", "[Value]"),
         ("    out: &mut [u8],\n", ""),
+        ("    old: &[u8],\n", ""),
+        ("old: &[u8]", "old: &mut [u8]"),
+        ("pause: &mut [u8]", "pause: &[u8]"),
         (") -> u32", ") -> u64"),
         ("muntyzhap_check_table", "muntyzhap_check_tables"),
         ("extern \"C\" fn muntyzhap_run", "fn muntyzhap_run"),
@@ -153,6 +168,9 @@ fn a_changed_declaration_is_seen() {
         ("n: usize,\n        slots", "slots: usize,\n        n"),
         ("journal: *mut Entry", "journal: *mut Value"),
         ("journal_length: usize,\n    ) ->", ") ->"),
+        ("pause: *mut u8", "pause: *const u8"),
+        ("old: *const u8", "old_output: *const u8"),
+        ("        old_length: usize,\n", ""),
         ("-> u32;", "-> u8;"),
         ("pub slot: usize", "pub slot: u8"),
         ("pub old_value: Value", "pub held: Value"),
@@ -167,6 +185,9 @@ fn a_changed_declaration_is_seen() {
         ("const uint8_t *sheet", "uint8_t *sheet"),
         ("size_t n, size_t slots", "size_t slots, size_t n"),
         (", size_t journal_length", ""),
+        ("uint8_t *pause", "const uint8_t *pause"),
+        ("const uint8_t *old", "uint8_t *old"),
+        ("muntyzhap_carry_on(", "muntyzhap_carry("),
         (
             "struct muntyzhap_entry *journal",
             "struct muntyzhap_value *journal",

@@ -12,6 +12,8 @@ pub struct Answer {
 impl Answer {
     /// The number of an answer that is no refusal.
     pub const FINISHED: u32 = 0;
+    /// The one refusal that a run in stretches answers by writing.
+    pub(crate) const SPENT: u32 = Refusal::BudgetSpent as u32;
     /// What a run has done before its first step, and all that one refused
     /// ahead of its run has.
     pub(crate) const NO_STEPS: u32 = 0;
@@ -48,6 +50,7 @@ pub(crate) enum Refusal {
     ProvenanceTooLow = 16,
     BudgetSpent = 17,
     JournalFull = 18,
+    Checkpoint = 19,
 }
 
 impl Refusal {
@@ -61,7 +64,8 @@ impl Refusal {
     }
 }
 
-/// "Numbers 1 to 8, 11 and 12 give block, offset and steps 0."
+/// "Numbers 1 to 8, 11 and 12 give block, offset and steps 0." So does 19, which no
+/// step meets.
 impl From<Refusal> for Answer {
     fn from(refusal: Refusal) -> Answer {
         Answer {

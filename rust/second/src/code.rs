@@ -45,6 +45,28 @@ impl Command {
     const SEQUENCE: u8 = 0x22;
     const IF: u8 = 0x23;
     const WHILE: u8 = 0x24;
+    /// "the child taken (from 0; then-part 0, else-part 1, body 0)" (document 02,
+    /// N8)
+    pub const THEN_PART: u8 = 0;
+    pub const ELSE_PART: u8 = 1;
+    pub const BODY: u8 = 0;
+
+    /// The command inside this one by that number.
+    pub fn part(&self, child: u8) -> Option<&Command> {
+        match (&self.form, child) {
+            (Form::Sequence(commands), _) => commands.get(usize::from(child)),
+            (Form::If { then_part, .. }, Command::THEN_PART) => Some(then_part),
+            (Form::If { else_part, .. }, Command::ELSE_PART) => Some(else_part),
+            (Form::While { body, .. }, Command::BODY) => Some(body),
+            _ => None,
+        }
+    }
+
+    /// "A step is one guard judged or one assignment made": whether this command
+    /// makes one itself.
+    pub fn has_step(&self) -> bool {
+        !matches!(self.form, Form::Skip | Form::Sequence(_))
+    }
 }
 
 #[derive(Debug, Clone)]

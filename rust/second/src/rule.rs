@@ -18,9 +18,11 @@ impl Budget {
         (steps <= Budget::MOST_STEPS).then_some(Budget(steps))
     }
 
-    /// "if steps done equal the budget, the run is spent"
+    /// "if steps done equal the budget, the run is spent". Where a run is carried
+    /// on, a budget "at or below" the steps so far "gives 17 before any step"
+    /// (document 02, N8).
     pub fn is_spent(self, steps_done: u32) -> bool {
-        steps_done == self.0
+        steps_done >= self.0
     }
 }
 

@@ -181,6 +181,19 @@ impl Store {
         self.held[slot.index()].write(value);
     }
 
+    /// The same table with the slots that an output shows, its counts adding up to
+    /// no more than these steps; else "a value is ill-formed, or counts add up to
+    /// more than the steps" (document 02, N8).
+    pub fn holding(mut self, output: &[u8], steps: u32) -> Option<Store> {
+        let slots = self.table.slots();
+        let mut writes = 0;
+        for (bytes, slot) in output.chunks_exact(Slot::OUTPUT_BYTES).zip(&mut self.held) {
+            *slot = Slot::from_output(bytes, slots)?;
+            writes += u64::from(slot.writes);
+        }
+        (writes <= u64::from(steps)).then_some(self)
+    }
+
     /// The length the output must have.
     pub fn output_bytes(&self) -> usize {
         self.table.slots() * Slot::OUTPUT_BYTES

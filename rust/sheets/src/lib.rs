@@ -9,12 +9,14 @@
 mod call;
 mod code;
 mod output;
+mod pause;
 mod sheet;
 mod value;
 
 pub use crate::call::*;
 pub use crate::code::*;
 pub use crate::output::*;
+pub use crate::pause::*;
 pub use crate::sheet::*;
 pub use crate::value::*;
 

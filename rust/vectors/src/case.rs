@@ -11,9 +11,27 @@ pub struct Case {
     pub call: Call,
     /// The length of the output that is lent.
     pub output: usize,
+    /// A call in stretches has no journal.
+    pub stretch: Option<Stretch>,
     pub expected: Expected,
     /// The entries of a finished run, where they are worked by hand too.
     pub entries: Option<Vec<Entry>>,
+}
+
+/// What a call in stretches gets beside what a run does (document 02, N8).
+#[derive(Clone)]
+pub struct Stretch {
+    /// The length of the pause buffer that is lent.
+    pub pause: usize,
+    /// What it carries on from; none at the start.
+    pub old: Option<Checkpoint>,
+}
+
+/// "the old output and pause sheet, only read, as opening values and place"
+#[derive(Clone)]
+pub struct Checkpoint {
+    pub output: Bytes,
+    pub pause: Bytes,
 }
 
 /// What an assignment fills: "block, offset, slot, old value, new value"
@@ -49,8 +67,10 @@ pub struct Answer {
 pub struct Expected {
     pub answer: Answer,
     /// The end store of a finished run; a refused one leaves the output as it
-    /// was.
+    /// was, unless it pauses.
     pub end: Option<Bytes>,
+    /// The pause sheet of one that pauses.
+    pub pause: Option<Bytes>,
 }
 
 fn answer_of(number: u32, block: u32, offset: usize, steps: u32) -> Answer {
@@ -68,6 +88,17 @@ pub fn finished(blocks: usize, steps: u32, end: &[EndSlot]) -> Expected {
     Expected {
         answer: answer_of(0, blocks, 0, steps),
         end: Some(output(end)),
+        pause: None,
+    }
+}
+
+/// A run in stretches pauses after so many steps, in a block at the end of a path,
+/// with these slots; the command whose step is next has this offset.
+pub fn paused(steps: u32, block: u8, path: &[Taken], offset: usize, slots: &[EndSlot]) -> Expected {
+    Expected {
+        answer: answer_of(17, u32::from(block), offset, steps),
+        end: Some(output(slots)),
+        pause: Some(pause(steps, block, path)),
     }
 }
 
@@ -76,6 +107,7 @@ pub fn refused(number: u32, block: u32, offset: usize, steps: u32) -> Expected {
     Expected {
         answer: answer_of(number, block, offset, steps),
         end: None,
+        pause: None,
     }
 }
 
@@ -92,6 +124,7 @@ pub struct Draft {
     budget: u32,
     output: Option<usize>,
     journal: usize,
+    stretch: Option<Stretch>,
 }
 
 pub fn case(name: impl Into<String>, says: &'static str) -> Draft {
@@ -104,6 +137,7 @@ pub fn case(name: impl Into<String>, says: &'static str) -> Draft {
         budget: AMPLE,
         output: None,
         journal: AMPLE_ENTRIES,
+        stretch: None,
     }
 }
 
@@ -161,10 +195,46 @@ impl Draft {
         self
     }
 
+    /// The first stretch of a run.
+    pub fn start(self) -> Draft {
+        self.stretch(None)
+    }
+
+    /// The next one, from these bytes on.
+    pub fn carry_on(self, output: Bytes, pause: Bytes) -> Draft {
+        self.stretch(Some(Checkpoint { output, pause }))
+    }
+
+    fn stretch(mut self, old: Option<Checkpoint>) -> Draft {
+        let pause = PAUSE;
+        self.stretch = Some(Stretch { pause, old });
+        self.journal(0)
+    }
+
+    /// A call in stretches with a pause buffer of this length.
+    pub fn pause(mut self, length: usize) -> Draft {
+        let stretch = self.stretch.as_mut();
+        stretch.expect("a call in stretches").pause = length;
+        self
+    }
+
     /// The run finishes in so many steps with these slots.
     pub fn finishes(self, steps: u32, end: &[EndSlot]) -> Case {
         let blocks = usize::from(self.programme[0]);
         self.ends(finished(blocks, steps, end))
+    }
+
+    /// The run pauses after so many steps, in this block at the end of this path; the
+    /// command there has this offset.
+    pub fn pauses(
+        self,
+        steps: u32,
+        block: u8,
+        path: &[Taken],
+        offset: usize,
+        slots: &[EndSlot],
+    ) -> Case {
+        self.ends(paused(steps, block, path, offset, slots))
     }
 
     /// The call is refused just so.
@@ -186,6 +256,7 @@ impl Draft {
             says: self.says,
             output: self.output.unwrap_or(call.output_bytes()),
             call,
+            stretch: self.stretch,
             expected,
             entries: None,
         }

@@ -25,6 +25,7 @@ mod payloads;
 mod programme_sheets;
 mod steps;
 mod store_sheets;
+mod stretches;
 #[cfg(test)]
 mod tests;
 mod views;

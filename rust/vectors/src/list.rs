@@ -3,7 +3,7 @@
 use crate::case::Case;
 use crate::{
     arguments, branches, code, depth, descents, floors, journals, labels, operations, paper,
-    payloads, programme_sheets, steps, store_sheets, views, worked_examples,
+    payloads, programme_sheets, steps, store_sheets, stretches, views, worked_examples,
 };
 
 pub fn cases() -> Vec<Case> {
@@ -24,6 +24,7 @@ pub fn cases() -> Vec<Case> {
         floors::cases(),
         journals::cases(),
         paper::cases(),
+        stretches::cases(),
     ]
     .into_iter()
     .flatten()

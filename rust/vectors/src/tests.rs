@@ -4,12 +4,12 @@
 use std::collections::BTreeSet;
 use std::fs;
 
-use second_runner::{check_store, run, Entry, Value};
+use second_runner::{carry_on, check_store, run, start, Entry, Value};
 use sheets::{
     end_slots, integer, kept, read_view, store, written, AMPLE_ENTRIES, OUTPUT_SLOT, RULES,
 };
 
-use crate::case::{self, case, Answer, Case};
+use crate::case::{self, case, Answer, Case, Checkpoint, Stretch};
 use crate::paper::{self, Verdict};
 use crate::{file, layout, list, LINES, LIST};
 
@@ -28,25 +28,39 @@ const LENT_ENTRY: Entry = Entry {
     new: LENT_VALUE,
 };
 
-/// What the second runner makes of a case: the answer, and what was lent.
+/// What the second runner makes of a case: the answer, and what was lent. The pause
+/// buffer of a run has no bytes.
 struct Played {
     answer: Answer,
     output: Vec<u8>,
     journal: Vec<Entry>,
+    pause: Vec<u8>,
+}
+
+/// How long a case's pause buffer is.
+fn pause_length(case: &Case) -> usize {
+    case.stretch.as_ref().map_or(0, |stretch| stretch.pause)
 }
 
 fn play(case: &Case) -> Played {
-    let call = &case.call;
-    let mut output = vec![LENT; case.output];
-    let mut journal = vec![LENT_ENTRY; call.journal];
-    let given = run(
-        &call.store,
-        &call.programme,
-        call.rule,
-        call.budget,
-        &mut output,
-        &mut journal,
-    );
+    let (store, programme) = (&case.call.store, &case.call.programme);
+    let (rule, budget) = (case.call.rule, case.call.budget);
+    let output = &mut vec![LENT; case.output];
+    let journal = &mut vec![LENT_ENTRY; case.call.journal];
+    let pause = &mut vec![LENT; pause_length(case)];
+    let given = match &case.stretch {
+        None => run(store, programme, rule, budget, output, journal),
+        Some(Stretch { old: None, .. }) => start(store, programme, rule, budget, output, pause),
+        Some(Stretch { old: Some(old), .. }) => {
+            let Checkpoint {
+                output: old_output,
+                pause: old_pause,
+            } = old;
+            carry_on(
+                store, programme, rule, budget, old_output, old_pause, output, pause,
+            )
+        }
+    };
     let answer = Answer {
         number: given.number,
         block: given.block,
@@ -55,9 +69,17 @@ fn play(case: &Case) -> Played {
     };
     Played {
         answer,
-        output,
-        journal,
+        output: output.clone(),
+        journal: journal.clone(),
+        pause: pause.clone(),
     }
+}
+
+/// The cases that are played in one stretch, with a journal.
+fn runs() -> Vec<Case> {
+    let mut cases = list::cases();
+    cases.retain(|case| case.stretch.is_none());
+    cases
 }
 
 fn numbers() -> BTreeSet<u32> {
@@ -76,11 +98,21 @@ fn case_named<'a>(cases: &'a [Case], name: &str) -> &'a Case {
 #[test]
 fn the_second_runner_answers_each_case_as_the_list_says() {
     for case in list::cases() {
-        let Played { answer, output, .. } = play(&case);
+        let played = play(&case);
         let about = format!("{}: {}", case.name, case.says);
-        assert_eq!(answer, case.expected.answer, "{about}");
-        let lent = vec![LENT; case.output];
-        assert_eq!(output, case.expected.end.unwrap_or(lent), "{about}");
+        assert_eq!(played.answer, case.expected.answer, "{about}");
+        let lent = [case.output, pause_length(&case)].map(|length| vec![LENT; length]);
+        let [output, pause] = lent;
+        assert_eq!(
+            played.output,
+            case.expected.end.unwrap_or(output),
+            "{about}"
+        );
+        assert_eq!(
+            played.pause,
+            case.expected.pause.unwrap_or(pause),
+            "{about}"
+        );
     }
 }
 
@@ -88,7 +120,7 @@ fn the_second_runner_answers_each_case_as_the_list_says() {
 /// entries that name it. [..] A refusal leaves the journal untouched too."
 #[test]
 fn each_case_s_counts_are_those_of_its_entries() {
-    for case in list::cases() {
+    for case in runs() {
         let Played { journal, .. } = play(&case);
         let end = end_slots(&case.expected.end.unwrap_or_default());
         let total: u32 = end.iter().map(|slot| slot.writes).sum();
@@ -158,7 +190,7 @@ fn the_stored_files_are_those_of_the_list() {
 
 #[test]
 fn every_number_comes_up() {
-    let all: BTreeSet<u32> = (0..=18).collect();
+    let all: BTreeSet<u32> = (0..=19).collect();
     assert_eq!(numbers(), all);
 }
 
@@ -184,8 +216,9 @@ fn every_byte_is_a_ninth_somewhere() {
     assert!((0x11..=0x15).all(|byte| bytes.contains(&byte)), "{bytes:?}");
 }
 
-/// What the program has room for: a slot more than any end store has, as many
-/// entries as the printing program lends, and a name and two sheets of 32,768 bytes.
+/// What the program has room for: an output and a pause buffer of a slot more than
+/// any end store has, as many entries as the printing program lends, and 32,768 bytes
+/// of name and sheets, the old output among them.
 #[test]
 fn every_case_fits() {
     const MOST_OUTPUT: usize = (256 + 1) * OUTPUT_SLOT;
@@ -194,9 +227,15 @@ fn every_case_fits() {
         let Case {
             name, call, output, ..
         } = &case;
-        assert!(*output <= MOST_OUTPUT, "{name}: {output}");
+        let pause = pause_length(&case);
+        assert!(*output.max(&pause) <= MOST_OUTPUT, "{name}");
         assert!(call.journal <= AMPLE_ENTRIES, "{name}: {}", call.journal);
-        let body = name.len() + call.store.len() + call.programme.len();
+        let old = case
+            .stretch
+            .as_ref()
+            .and_then(|stretch| stretch.old.as_ref());
+        let old = old.map_or(0, |old| old.output.len() + old.pause.len());
+        let body = name.len() + call.store.len() + call.programme.len() + old;
         assert!(body <= MOST_BODY, "{name}: {body}");
     }
 }
@@ -205,7 +244,7 @@ fn every_case_fits() {
 /// than a run fills.
 #[test]
 fn journals_of_each_length_are_lent() {
-    let cases = list::cases();
+    let cases = runs();
     let full = cases
         .iter()
         .filter(|case| case.expected.answer.number == 18);
@@ -260,39 +299,5 @@ fn the_largest_good_sheets_are_played() {
     assert_eq!(lengths, [2691, 16_643, 3328]);
 }
 
-#[test]
-fn a_case_has_the_bytes_that_the_program_reads() {
-    let cases = [case("ab", "")
-        .store(vec![0x51])
-        .programme(vec![0x61, 0x62])
-        .rule(0x0403_0201)
-        .budget(0x0807_0605)
-        .output(0x0A09)
-        .journal(0x0C0B)
-        .refused(17, 1, 2, 3)];
-    let bytes = [
-        b"\x01\x00".as_slice(),
-        b"case\x02\x01\x02\x03\x04\x05\x06\x07\x08\x09\x0A\x0B\x0C\x01\x00\x02\x00",
-        b"ab\x51\x61\x62",
-    ];
-    assert_eq!(layout::list_bytes(&cases), bytes.concat());
-}
-
-#[test]
-fn a_line_tells_the_answer_and_the_output() {
-    let two = store(&[1], &[(0, integer(-2)), (0, read_view(1))]);
-    let none = store(&[1], &[]);
-    let cases = [
-        case("refused", "").refused(17, 1, 2, 3),
-        case("two slots", "")
-            .store(two)
-            .finishes(4, &[written(258, integer(-2)), kept(read_view(1))]),
-        case("no slots", "").store(none).finishes(0, &[]),
-    ];
-    let lines = "refused: end 17 block 1 at 2 steps 3 output untouched\n\
-        two slots: end 0 block 0 at 0 steps 4 output \
-        00feffffffffffffff02010000 02010000000000000000000000\n\
-        no slots: end 0 block 0 at 0 steps 0 output empty\n\
-        cases played: 3\n";
-    assert_eq!(layout::lines(&cases), lines);
-}
+mod layouts;
+mod stretches;

@@ -2,14 +2,14 @@
 
 use std::fmt::{self, Display, Formatter};
 
-use super::{hex, Call, Lent, Runner, Seen};
+use super::{hex, Call, Lent, Runners, Seen};
 
 /// A call on which the two runners differ, or one of them goes against the
 /// documents.
 #[derive(Debug, Clone)]
 pub struct Difference {
     pub(super) call: Call,
-    pub(super) runner: Runner,
+    pub(super) runners: Runners,
     pub(super) proved: Seen,
     pub(super) second: Seen,
     pub(super) fault: Option<String>,
@@ -25,7 +25,7 @@ impl Difference {
     /// The same difference, or another, with as few blocks as still show one.
     pub fn shrunk(self) -> Difference {
         let smaller = self.call.smaller();
-        let again = |call: &Call| call.compare_to(self.runner).err();
+        let again = |call: &Call| call.compare_to(self.runners).err();
         match smaller.iter().find_map(again) {
             Some(difference) => difference.shrunk(),
             None => self,
@@ -70,6 +70,7 @@ impl Display for Call {
                     "rule {rule}, budget {budget}, output of {length} bytes, {entries} entries"
                 )
             }
+            Call::Stretch(stretch) => write!(out, "{stretch}"),
         }
     }
 }
@@ -82,6 +83,10 @@ impl Display for Seen {
             out,
             "{answer}, output and {margin} bytes on either side {bytes}, {}",
             self.journal
-        )
+        )?;
+        match self.pause.lent() {
+            [] => Ok(()),
+            _ => write!(out, ", pause buffer likewise {}", hex(&self.pause.bytes)),
+        }
     }
 }

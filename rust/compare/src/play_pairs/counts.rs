@@ -4,6 +4,7 @@
 use std::fmt::{self, Display, Formatter};
 
 use super::endorsed::Floors;
+use super::stretched::Stretched;
 use super::tainted::Operands;
 use super::traces::Traces;
 
@@ -130,6 +131,7 @@ pub struct Played {
     pub(super) shown: u64,
     /// Those among them that differ by its high bytes alone.
     pub(super) shown_by_high_bytes: u64,
+    pub(super) stretched: Stretched,
 }
 
 impl Played {
@@ -155,7 +157,12 @@ impl Played {
             "{shown} pairs of stores differ in a protected slot, {by_high_bytes} by its high \
              bytes alone, and end so"
         );
-        rules.chain(without).chain([back]).collect()
+        let stretched = self.stretched.lines();
+        rules
+            .chain(without)
+            .chain([back])
+            .chain(stretched)
+            .collect()
     }
 
     /// What is wrong with these counts, in words.
@@ -181,6 +188,7 @@ impl Played {
             .chain(self.complaints_of_journals())
             .chain(self.complaints_of_operations())
             .chain(self.complaints_of_floors())
+            .chain(self.stretched.complaints())
             .collect()
     }
 

@@ -19,7 +19,8 @@ use crate::values::Value;
 pub struct Leak {
     adversary: u8,
     trace: Trace,
-    runs: [(Call, Seen); 2],
+    /// Both runs, or the stretches of one and then of the other.
+    runs: Vec<(Call, Seen)>,
 }
 
 impl Display for Leak {
@@ -35,6 +36,7 @@ impl Display for Leak {
 }
 
 /// One pair: two stores and two replacements of one programme.
+#[derive(Clone)]
 pub(super) struct Pair {
     pub adversary: u8,
     pub stores: [Store; 2],
@@ -62,13 +64,16 @@ impl Pair {
         };
         counts.leaked.count(trace);
         counts.leaked_with_operation += u64::from(tainted.any());
-        let [one, other] = calls;
-        let [one_end, other_end] = ends;
-        Ok(Some(Leak {
+        let runs = calls.into_iter().zip(ends);
+        Ok(Some(self.leak(trace, runs.collect())))
+    }
+
+    pub fn leak(&self, trace: Trace, runs: Vec<(Call, Seen)>) -> Leak {
+        Leak {
             adversary: self.adversary,
             trace,
-            runs: [(one, one_end), (other, other_end)],
-        }))
+            runs,
+        }
     }
 
     fn count_end(&self, ends: &[Seen; 2], counts: &mut Counts) {
@@ -140,7 +145,7 @@ impl Pair {
 
     /// Where protected slots are left differently, if they are: in the output, by
     /// values and then by counts, or in the journal.
-    fn trace(&self, ends: &[Seen; 2]) -> Option<Trace> {
+    pub fn trace(&self, ends: &[Seen; 2]) -> Option<Trace> {
         let at = |side: usize, slot| slot_bytes(ends[side].output(), slot);
         let value = |side: usize, slot| value_of(at(side, slot));
         let mut protected = self.protected();
@@ -156,7 +161,7 @@ impl Pair {
     }
 
     /// Whether a protected slot doesn't end with the value with which it began.
-    fn changed_protected(&self, ends: &[Seen; 2]) -> bool {
+    pub fn changed_protected(&self, ends: &[Seen; 2]) -> bool {
         let sides = self.stores.iter().zip(ends);
         sides.into_iter().any(|(store, end)| {
             self.protected().any(|slot| {

@@ -50,7 +50,9 @@ impl Refusal {
             Refusal::Arguments => {
                 "the rule must be 0, 1, 2, 3 or 255, and the budget at most 1,000,000 steps"
             }
-            Refusal::OutputLength => "the output must have 13 bytes for each slot of the store",
+            Refusal::OutputLength => {
+                "an output must have 13 bytes for each slot of the store, and a pause sheet 256 bytes"
+            }
             _ => self.meaning_in_run(),
         }
     }
@@ -78,6 +80,12 @@ impl Refusal {
             Refusal::BudgetSpent(_) => "the budget is spent, and another step was to be done",
             Refusal::JournalFull(_) => {
                 "the journal is full: each assignment needs an entry, and none is left for this one"
+            }
+            Refusal::Checkpoint => {
+                "the checkpoint is not good: its path leads to no assignment, if or while, a label \
+                 on it does not stand at or below the one outside or is another one in a sequence, \
+                 an unused byte is not 0, a value is ill-formed, or counts add up to more than the \
+                 steps"
             }
             _ => "a number that this wrapper does not know",
         }

@@ -56,7 +56,7 @@ impl Slot {
     }
 
     /// How many assignments to it the run made: 0 at opening. As many entries of
-    /// the run's journal name it.
+    /// the run's journal name it, where it has one.
     pub fn writes(&self) -> u32 {
         self.writes
     }

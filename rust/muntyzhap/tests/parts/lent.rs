@@ -3,8 +3,8 @@
 use muntyzhap::raw::{self, Answer, Entry};
 use muntyzhap::sheet::output_bytes;
 
-/// What each byte of an output holds before a run.
-const BYTE: u8 = 0xA5;
+/// What each byte of an output or of a pause buffer holds before a run.
+pub const BYTE: u8 = 0xA5;
 /// What each entry of a journal holds before a run: nothing that a run leaves.
 pub const MARK: Entry = Entry {
     block: MARK_NUMBER,

@@ -3,7 +3,9 @@
 // Each test file uses its own share of this.
 #![allow(dead_code)]
 
+pub mod branching;
 pub mod lent;
+pub mod stretch;
 
 use muntyzhap::code::{assign, literal, read, Code, Command, Expression};
 use muntyzhap::sheet::{programme_sheet, store_sheet, Block, Slot};

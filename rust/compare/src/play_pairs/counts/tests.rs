@@ -33,6 +33,20 @@ fn all() -> Counts {
     }
 }
 
+/// Stretches with which nothing is wrong; those that show nothing are told in
+/// `stretched`.
+fn all_stretched() -> Stretched {
+    let mut stretched = Stretched::default();
+    for counts in &mut stretched.chains {
+        counts.paused = 1;
+        counts.in_branches = 1;
+        counts.told_apart = 1;
+        counts.changed = 1;
+        counts.leaked.by_value = 1;
+    }
+    stretched
+}
+
 fn all_played() -> Played {
     Played {
         pairs: 1,
@@ -40,6 +54,7 @@ fn all_played() -> Played {
         without: [all(); Without::ALL.len()],
         shown: 1,
         shown_by_high_bytes: 1,
+        stretched: all_stretched(),
     }
 }
 
