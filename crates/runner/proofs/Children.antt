@@ -160,16 +160,16 @@ module _ (code : List ℕ) (at k : ℕ) where
         PartAs.inside-at {there = m} {deeper = 1} {rows = 1} c (enters-then o g c d) (rw e (record { end = i; lies = u })) (omega (arith, e, expr-within code g (at + 1) n h .0)))
         c (s .lies))
 
-    pub else-inside : (next rows end more jump : ℕ) → k ≡ 1 → Skips code m next rows → Skips code next end more → jump ≡ between more
+    pub else-inside : (next rows jump : ℕ) → k ≡ 1 → Skips code m next rows → ((c : Cmd) (end : ℕ) → Lies code c next end → jump ≡ between (size c))
         → (c : Cmd) → Sits code c at → PartAs code at c k (p.Inside next 1 (1 + rows + jump))
-    else-inside next rows end more jump z h l j c s =
+    else-inside next rows jump z h l c s =
         rw z
         (by-if code at (s .end) (λ c. PartAs code at c 1 (p.Inside next 1 (1 + rows + jump))) b
         (λ o g c d n i q u v.
         let e = f g n q in
         let y = h c i (rw e u) in
         let x = l d (s .end) (rw (y .0) v) in
-        let w : 1 + rows + jump ≡ 1 + size c + between (size d) = omega (arith, y .1, j, ap between (x .1)) in
+        let w : 1 + rows + jump ≡ 1 + size c + between (size d) = omega (arith, y .1, x) in
         PartAs.inside-at {there = next} {deeper = 1} {rows = 1 + rows + jump} d (rw w (enters-else o g c d)) (rw (y .0) (record { end = s .end; lies = v }))
         (omega (arith, w, y .0, lies-slim code c n i u, expr-within code g (at + 1) n q .0, between-most (size d))))
         c (s .lies))

@@ -5,7 +5,7 @@ use mathlib.Core.Bool.{Bool, true, false}
 use mathlib.Core.List.{List, [], _∷_}
 use native.Mathlib.Omega.{arith}
 use lib.ListN.{length, getD, set, length-set}
-use lib.Seq.{getD-set-same, getD-set-other}
+use lib.Seq.{getD-set-same, getD-set-other, ext-getD}
 use lib.Dec.{eqb, ltb}
 use borrow.Author.Tests.{eqb-true, eqb-false, ltb-true, ltb-false, lt-ltb, le-ltb}
 use Rattle.lattice.specs.Tests.{_and_}
@@ -235,3 +235,21 @@ module _ (t : Table) (sheet : List ℕ) (size i d outer row : ℕ) (c : Cmd) (l 
       pub further : (out : Found) → i < size → FollowsAs t (g .tree) (d + deeper) label (pathFrom sheet size (i + 1)) (row + rows) (set l (d + deeper) label) held out
           → FollowsAs t c d outer (pathFrom sheet size i) row l held out
       further out z h = rw (path-more sheet size i z) (further′ (pathFrom sheet size (i + 1)) out h)
+
+-- Labels by depth, as principals: those up to the j-th.
+pub names-more : {t : Table} {l held : List ℕ} (names : List ℕ) (j : ℕ) (x : Label) → LabelsHeld t l held → length names ≡ mostDeep + 1 → j ≤ mostDeep
+    → ((p : Label) → LabelHeld t p (getD held j 0) → x ≡ p) → ((q : ℕ) → q < j → getD names q 0 ≡ getD l q 0)
+    → (q : ℕ) → q < j + 1 → getD (set names j x) q 0 ≡ getD l q 0
+names-more {l = l} names j x h k m f g q n = go (eqb q j) refl
+  where
+    go : (b : Bool) → eqb q j ≡ b → getD (set names j x) q 0 ≡ getD l q 0
+    go true y =
+        let z = eqb-true q j y in
+        rw (z, getD-set-same names j x 0 (omega arith)) (f (getD l j 0) (h .same j m))
+    go false y =
+        let z = eqb-false q j y in
+        getD-set-other names j q x 0 z ∙ g q (omega arith)
+
+pub names-all : {t : Table} {l held : List ℕ} (names : List ℕ) (j : ℕ) → LabelsHeld t l held → length names ≡ mostDeep + 1 → mostDeep < j
+    → ((q : ℕ) → q < j → getD names q 0 ≡ getD l q 0) → names ≡ l
+names-all {l = l} names j h k m g = ext-getD 0 names l (k ∙ sym (h .room)) (λ q n. g q (omega arith))

@@ -33,11 +33,13 @@ pub mod Opened
 pub mod Lying
 pub mod Reading
 pub mod Skipping
+pub mod Blanks
 pub mod Children
+pub mod Pausing
 pub mod Seeking
+pub mod Sequences
 pub mod Following
 pub mod Reopening
-pub mod Pausing
 pub mod Sheets
 pub mod Stepping
 pub mod Locating

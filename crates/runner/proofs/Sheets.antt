@@ -15,7 +15,7 @@ use Rattle.runner.specs.Following.{fills, Traced}
 -- the entries, without what stands before them
 unfoldable puts : List ℕ → ℕ → ℕ → List Open → List ℕ
 puts s size i [] = s
-puts s size i (o ∷ p) = set (puts (set s i (o .child)) size (i + 1) p) (size + i) (o .label)
+puts s size i (o ∷ p) = set (set (puts s size (i + 1) p) i (o .child)) (size + i) (o .label)
 
 module _ (a b c d e f : ℕ) where
   abbrev Headed : List ℕ → List ℕ
@@ -29,10 +29,11 @@ module _ (a b c d e f : ℕ) where
   fills-past s size i [] = refl
   fills-past s size i (o ∷ p) =
       let z : 6 + size + i ≡ 6 + (size + i) = omega arith in
-      ap (λ (t : List ℕ). set (fills t size (i + 1) p) (6 + size + i) (o .label)) (set-past s i (o .child))
-      ∙ ap (λ (t : List ℕ). set t (6 + size + i) (o .label)) (fills-past (set s i (o .child)) size (i + 1) p)
-      ∙ ap (λ (n : ℕ). set (Headed (puts (set s i (o .child)) size (i + 1) p)) n (o .label)) z
-      ∙ set-past (puts (set s i (o .child)) size (i + 1) p) (size + i) (o .label)
+      let t = puts s size (i + 1) p in
+      ap (λ (u : List ℕ). set (set u (6 + i) (o .child)) (6 + size + i) (o .label)) (fills-past s size (i + 1) p)
+      ∙ ap (λ (u : List ℕ). set u (6 + size + i) (o .label)) (set-past t i (o .child))
+      ∙ ap (λ (n : ℕ). set (Headed (set t i (o .child))) n (o .label)) z
+      ∙ set-past (set t i (o .child)) (size + i) (o .label)
 
 abbrev children : List Open → List ℕ
 children p = map (λ (o : Open). o .child) p
@@ -46,26 +47,24 @@ zeros n = replicate n 0
 zeros-last : (i : ℕ) → zeros (i + 1) ≡ zeros i ++ (0 ∷ [])
 zeros-last i = sym (replicate-append-replicate i 1 0)
 
--- entries put into zeros: the children, then the labels, the first i of which are still to come
-puts-are : (p : List Open) (xs : List ℕ) (size i a b : ℕ) → length xs ≡ i → size ≡ i + length p → a ≡ length p + (i + (length p + b))
-    → puts (xs ++ replicate a 0) size i p ≡ xs ++ (children p ++ (replicate i 0 ++ (labels p ++ replicate b 0)))
+-- entries put into zeros: the children and the labels, the first i of both still to come
+puts-are : (p : List Open) (size i a b : ℕ) → size ≡ i + length p → a ≡ i + (length p + (i + (length p + b)))
+    → puts (zeros a) size i p ≡ zeros i ++ (children p ++ (zeros i ++ (labels p ++ zeros b)))
 unfolding puts
-puts-are [] xs size i a b h k e =
-    let z : a ≡ i + b = omega arith in
-    ap (λ (t : List ℕ). xs ++ t) (ap (λ (n : ℕ). replicate n 0) z ∙ sym (replicate-append-replicate i b 0))
-puts-are (o ∷ p) xs size i a b h k e =
-    let a′ = length p + (i + 1 + (length p + b)) in
-    let z : a ≡ suc a′ = omega arith in
-    let xs′ = xs ++ (o .child ∷ []) in
-    let one : set (xs ++ replicate a 0) i (o .child) ≡ xs′ ++ replicate a′ 0 =
-    ap (λ (n : ℕ). set (xs ++ replicate n 0) i (o .child)) z ∙ set-at xs 0 (replicate a′ 0) (o .child) i h ∙ sym (append-assoc xs (o .child ∷ []) (replicate a′ 0)) in
-    let q = puts-are p xs′ size (i + 1) a′ b (length-append xs (o .child ∷ []) ∙ omega (arith, h)) (omega arith) refl in
-    let front = xs′ ++ (children p ++ replicate i 0) in
-    let two : xs′ ++ (children p ++ (replicate (i + 1) 0 ++ (labels p ++ replicate b 0))) ≡ front ++ (0 ∷ (labels p ++ replicate b 0)) =
-    rw (zeros-last i) (simp append-assoc) in
+puts-are [] size i a b k e =
+    let z : a ≡ i + (i + b) = omega arith in
+    ap (λ (n : ℕ). zeros n) z ∙ sym (replicate-append-replicate i (i + b) 0) ∙ ap (λ (t : List ℕ). zeros i ++ t) (sym (replicate-append-replicate i b 0))
+puts-are (o ∷ p) size i a b k e =
+    let q = puts-are p size (i + 1) a b (omega arith) (omega arith) in
+    let rest = labels p ++ zeros b in
+    let one : zeros (i + 1) ++ (children p ++ (zeros (i + 1) ++ rest)) ≡ zeros i ++ (0 ∷ (children p ++ (zeros (i + 1) ++ rest))) =
+    ap (λ (t : List ℕ). t ++ (children p ++ (zeros (i + 1) ++ rest))) (zeros-last i) ∙ append-assoc (zeros i) (0 ∷ []) (children p ++ (zeros (i + 1) ++ rest)) in
+    let front = zeros i ++ (o .child ∷ (children p ++ zeros i)) in
+    let two : zeros i ++ (o .child ∷ (children p ++ (zeros (i + 1) ++ rest))) ≡ front ++ (0 ∷ rest) = rw (zeros-last i) (simp append-assoc) in
     let long : length front ≡ size + i = simp (length-append, length-map, length-replicate) (omega arith) in
-    ap (λ (t : List ℕ). set (puts t size (i + 1) p) (size + i) (o .label)) one ∙ ap (λ (t : List ℕ). set t (size + i) (o .label)) (q ∙ two)
-    ∙ set-at front 0 (labels p ++ replicate b 0) (o .label) (size + i) long ∙ simp append-assoc
+    ap (λ (t : List ℕ). set (set t i (o .child)) (size + i) (o .label)) (q ∙ one)
+    ∙ ap (λ (t : List ℕ). set t (size + i) (o .label)) (set-at (zeros i) 0 (children p ++ (zeros (i + 1) ++ rest)) (o .child) i (length-replicate i 0) ∙ two)
+    ∙ set-at front 0 rest (o .label) (size + i) long ∙ simp append-assoc
 
 -- a sheet of zeros, with the steps in four bytes, the block, the entries, and then their number
 module _ (w x y z block : ℕ) where
@@ -77,7 +76,7 @@ module _ (w x y z block : ℕ) where
       ≡ w ∷ x ∷ y ∷ z ∷ length p ∷ block ∷ (children p ++ (labels p ++ zeros (pauseWidth - unusedAt (length p))))
   written size p h k =
       ap (λ (t : List ℕ). set t 4 size) (fills-past w x y z 0 block (zeros 250) size 0 p)
-      ∙ ap (λ (t : List ℕ). w ∷ x ∷ y ∷ z ∷ size ∷ block ∷ t) (puts-are p [] size 0 250 (pauseWidth - unusedAt (length p)) refl (omega arith) (omega arith))
+      ∙ ap (λ (t : List ℕ). w ∷ x ∷ y ∷ z ∷ size ∷ block ∷ t) (puts-are p size 0 250 (pauseWidth - unusedAt (length p)) (omega arith) (omega arith))
       ∙ ap (λ (n : ℕ). w ∷ x ∷ y ∷ z ∷ n ∷ block ∷ (children p ++ (labels p ++ zeros (pauseWidth - unusedAt (length p))))) h
 
 pub paused : (steps block size : ℕ) (p : List Open) (t new : List ℕ) (s : State) → t ≡ replicate pauseWidth 0 → s .steps ≡ steps

@@ -10,12 +10,16 @@ use Rattle.lattice.specs.Order.{Label, good}
 use Rattle.store.specs.Bytes.{entries}
 use Rattle.programme.specs.Syntax.{Cmd}
 use Rattle.programme.specs.Code.{mostDeep}
+use Rattle.programme.specs.Rows.{size}
 use Rattle.calculus.specs.Paths.{Open, atOrBelow, leads}
 use Rattle.calculus.specs.Stretches.{pauseWidth, mostOpen, childrenAt, labelsAt, openIn, entryIn}
 use Rattle.runner.specs.Machine.{LabelsHeld}
-use Rattle.runner.specs.Tracing.{rowTo, Along}
-use Rattle.runner.specs.Layout.{Sits, SomeCmd, Levels, Stepping}
+use Rattle.runner.specs.Tracing.{entry, pathTo, rowTo, Along}
+use Rattle.runner.specs.Layout.{Sits, SomeCmd, Levels, Skips, Stepping}
 use Rattle.runner.specs.Parts.{Enters}
+use Rattle.runner.specs.declared.walking.Extent.{Extent}
+use Rattle.runner.specs.declared.trail.Search.{Search}
+use Rattle.runner.specs.declared.trail.Search.the-variants as s
 use Rattle.runner.specs.declared.checkpoint.Entry.{Entry}
 use Rattle.runner.specs.declared.checkpoint.Entry.the-variants as e
 use Rattle.runner.specs.declared.checkpoint.Found.{Found}
@@ -72,23 +76,43 @@ pub record CanFind (code sheet : List ℕ) (t : Table) (held : List ℕ) (size a
   pub outside : outer < t .n
   pub slim : row ≤ at
 
--- Writing: the entries of a path from the i-th on, of `size` in all
+-- Writing: the entries of a path from the i-th on, of `size` in all, the last first
 unfoldable pub fills : List ℕ → ℕ → ℕ → List Open → List ℕ
 fills s size i [] = s
-fills s size i (o ∷ p) = set (fills (set s (childrenAt + i) (o .child)) size (i + 1) p) (labelsAt size + i) (o .label)
+fills s size i (o ∷ p) = set (set (fills s size (i + 1) p) (childrenAt + i) (o .child)) (labelsAt size + i) (o .label)
 
 pub record Traced (old new : List ℕ) (len : ℕ) (p : List Open) (size : ℕ) : Type 0 where
   pub size-is : size ≡ len + length p
   pub filled : new ≡ fills old size len p
   pub short : size ≤ mostOpen
 
-pub record CanTrace (code : List ℕ) (t : Table) (held sheet : List ℕ) (at i d len : ℕ) : Type 0 where
+-- a command in which a row is looked for: where it has the row, that takes a step
+pub record Seeks (code : List ℕ) (c : Cmd) (at i len : ℕ) : Type 0 where
+  pub sits : Sits code c at
+  pub steps : i < size c → Stepping c i
+  pub levels : Levels c (mostDeep - len)
+
+-- What comes of it: the row is past the command, and the sheet as it was; or it is there, and a path was written from the len-th entry on.
+pub data SearchAs (code : List ℕ) (c : Cmd) (at i len : ℕ) (p : List Open) (old new : List ℕ) : Search → Type 0 where
+  passed : {e : Extent} → Skips code at (e .end) (e .rows) → size c ≤ i → new ≡ old → SearchAs code c at i len p old new (s.Passed e)
+  reached : {all : ℕ} → i < size c → Traced old new len p all → SearchAs code c at i len p old new (s.Reached all)
+
+abbrev pub Traces : (code names old new : List ℕ) (at i d len : ℕ) → Search → Type 0
+Traces code names old new at i d len r = (c : Cmd) → Seeks code c at i len → SearchAs code c at i len (pathTo names c d i) old new r
+
+-- of a child, whose own entry is the first
+abbrev pub TracesChild : (code names old new : List ℕ) (at child i d len : ℕ) → Search → Type 0
+TracesChild code names old new at child i d len r =
+    (c : Cmd) → Seeks code c at i (len + 1) → SearchAs code c at i len (entry names child d ∷ pathTo names c d i) old new r
+
+pub record CanTrace (code sheet : List ℕ) (at i d len : ℕ) : Type 0 where
   pub command : Cmd
-  pub sits : Sits code command at
-  pub steps : Stepping command i
-  pub levels : Levels command (mostDeep - len)
+  pub seeks : Seeks code command at i len
+  pub sheet-size : length sheet ≡ pauseWidth
+  pub deep : d ≤ len
+
+-- labels by depth, held as masks
+pub record SomeLabels (t : Table) (held : List ℕ) : Type 0 where
   pub labels : List Label
   pub labels-held : LabelsHeld t labels held
   pub table-good : good t ≡ true
-  pub sheet-size : length sheet ≡ pauseWidth
-  pub deep : d ≤ len

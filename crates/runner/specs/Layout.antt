@@ -1,6 +1,6 @@
 -- Where the bytes of expressions and commands lie in a block's code, from the first byte to the byte after the last; how deep commands nest; which
 -- rows take a step. Assumes nothing.
-use Prim.Native.Nat.{ℕ, _+_, _-_, _≤_, _<_}
+use Prim.Native.Nat.{ℕ, zero, suc, _+_, _-_, _≤_, _<_}
 use mathlib.Core.Path.{_≡_}
 use mathlib.Core.List.{List}
 use lib.ListN.{length, getD}
@@ -113,6 +113,11 @@ Skips code at next rows = (c : Cmd) (end : ℕ) → Lies code c at end → (next
 
 abbrev pub SkipsAll : (code : List ℕ) (at n next rows : ℕ) → Type 0
 SkipsAll code at n next rows = (end total : ℕ) → Left code at n 0 end total → (next ≡ end) × (rows ≡ total)
+
+-- where commands that have so many rows end, if they have none; else 0
+unfoldable pub blankEnd : ℕ → ℕ → ℕ
+blankEnd zero end = end
+blankEnd (suc n) end = 0
 
 -- The i-th row of a command is an assignment's or a guard's, and no jump.
 unfoldable mutual

@@ -1,17 +1,15 @@
--- The parts of a command in its block's code: the child that an entry of a path names, and the next entry of the path to a row. Assumes nothing.
-use Prim.Native.Nat.{ℕ, zero, suc, _+_, _-_, _≤_, _<_}
+-- The parts of a command in its block's code: the child that an entry of a path names. Assumes nothing.
+use Prim.Native.Nat.{ℕ, zero, suc, _+_, _≤_}
 use mathlib.Core.Path.{_≡_}
-use mathlib.Core.List.{List, [], _∷_}
+use mathlib.Core.List.{List, _∷_}
 use lib.ListN.{getD}
 use Rattle.lattice.specs.Order.{Label}
 use Rattle.programme.specs.Syntax.{Cmd}
 use Rattle.calculus.specs.Paths.{Open, Child, nowhere, inSequence, insideGuard, child}
-use Rattle.runner.specs.Tracing.{entry, pathTo, rowTo, Along}
-use Rattle.runner.specs.Layout.{Sits, Levels, Stepping}
+use Rattle.runner.specs.Tracing.{rowTo, Along}
+use Rattle.runner.specs.Layout.{Sits}
 use Rattle.runner.specs.declared.walking.Part.{Part}
 use Rattle.runner.specs.declared.walking.Part.the-variants as p
-use Rattle.runner.specs.declared.walking.Way.{Way}
-use Rattle.runner.specs.declared.walking.Way.the-variants as w
 
 -- a child inside so many guards of its command: none in a sequence, one in an if or a while
 unfoldable pub inside : ℕ → Cmd → Child
@@ -31,17 +29,3 @@ pub data PartAs (code : List ℕ) (at : ℕ) (c : Cmd) (k : ℕ) : Part → Type
   inside-at : {there deeper rows : ℕ} (y : Cmd) → Enters c k y deeper rows → Sits code y there → rows + at ≤ there
       → PartAs code at c k (p.Inside there deeper rows)
   nowhere-at : child c k ≡ nowhere → PartAs code at c k p.Nowhere
-
--- the next entry of the path to the i-th row
-pub data WayAs (code : List ℕ) (c : Cmd) (i : ℕ) : Way → Type 0 where
-  here : ((l : List Label) (d : ℕ) → pathTo l c d i ≡ []) → WayAs code c i w.Here
-  into : {k there row deeper : ℕ} (y : Cmd) → Sits code y there → Stepping y row → deeper ≤ 1
-      → ((n : ℕ) → Levels c n → (1 ≤ n) × Levels y (n - 1))
-      → ((l : List Label) (d : ℕ) → pathTo l c d i ≡ entry l k (d + deeper) ∷ pathTo l y (d + deeper) row)
-      → WayAs code c i (w.Into k there row deeper)
-
--- a row that takes a step
-pub record CanSeek (code : List ℕ) (at i : ℕ) : Type 0 where
-  pub command : Cmd
-  pub sits : Sits code command at
-  pub steps : Stepping command i

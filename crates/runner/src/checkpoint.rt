@@ -9,41 +9,22 @@ ghost use Rattle.lattice.specs.Tests.{every};
 ghost use Rattle.lattice.specs.Order.{Label, mostPrincipals, good};
 ghost use Rattle.store.specs.Result.{ok};
 ghost use Rattle.programme.specs.Syntax.{Cmd};
-ghost use Rattle.programme.specs.Code.{readBlock, mostDeep};
+ghost use Rattle.programme.specs.Code.{readBlock};
 ghost use Rattle.calculus.specs.Stretches.{pauseWidth, entryIn};
 ghost use Rattle.runner.specs.Held.{LabelHeld};
 ghost use Rattle.runner.specs.Machine.{LabelsHeld};
-ghost use Rattle.runner.specs.Tracing.{pathTo};
-ghost use Rattle.runner.specs.Layout.{Sits, Levels, Stepping};
-ghost use Rattle.runner.specs.Following.{fits, EntryAs, CanEnter, FollowsAs, pathFrom, CanFind, Traced, CanTrace};
+ghost use Rattle.runner.specs.Layout.{Sits};
+ghost use Rattle.runner.specs.Following.{fits, EntryAs, CanEnter, FollowsAs, pathFrom, CanFind, SomeLabels};
 ghost use Rattle.runner.specs.Checkpoint.{Resumes, CanResume, Pauses, CanPause};
 use super::rules::Labels;
+use super::trail;
+use super::trail::Checkpoint;
+use super::trail::Names;
+use super::trail::Search;
 use super::walking;
 use super::walking::Part;
-use super::walking::Way;
 use lattice::Table;
-
-// A pause sheet: what stands before the path's entries. (Only the constants are used: it is held as bytes.)
-pub struct Checkpoint {
-    pub steps: u32,
-    pub open: u8,
-    pub block: u8,
-}
-
-impl Checkpoint {
-    // The bytes of a sheet.
-    pub const WIDTH: usize = 256;
-    // The bytes of the steps; the path's length follows them.
-    pub const STEPS: usize = 4;
-
-    pub const OPEN: usize = Checkpoint::STEPS;
-
-    pub const BLOCK: usize = Checkpoint::OPEN + 1;
-    // Where the children start; the labels follow them.
-    pub const CHILDREN: usize = Checkpoint::BLOCK + 1;
-    // The most entries of a path.
-    pub const MOST_OPEN: usize = 31;
-}
+use programme::Row;
 
 // A child that may be gone into, with the label inside it.
 pub enum Entry {
@@ -182,6 +163,20 @@ fn principal(table: Table, mask: u32) -> u8
     0
 }
 
+// The principals of the labels by depth.
+fn names_of(table: Table, labels: &Labels) -> Names
+    requires { ⌜ SomeLabels table (now labels) ⌝ }
+    ensures { λ r. ⌜ ((l : List Label) → LabelsHeld table l (now (labels .entry)) → r ≡ l) ⌝ }
+{
+    let mut names = [0; Row::DEPTHS];
+    let mut j: usize = 0;
+    while j < Row::DEPTHS {
+        names[j] = principal(table, labels[j]);
+        j += 1;
+    }
+    names
+}
+
 // Whether all bytes of a sheet from `from` on are 0.
 fn unused(sheet: &[u8], from: usize) -> bool
     requires { ⌜ (length (now sheet) ≡ pauseWidth) × (from ≤ pauseWidth) ⌝ }
@@ -215,40 +210,6 @@ pub(crate) fn resume(code: &[u8], sheet: &[u8], table: Table, labels: &mut Label
         find(code, sheet, table, labels, size, 0, 0, 0, top, 0)
     } else {
         Found::Bad
-    }
-}
-
-// Writes the path from the command at `at`, inside d guards, to its row i as the entries from `len` on, children on the way in and labels on the
-// way out, when the path's length is known; answers how many entries it has in all.
-fn trace(
-    code: &[u8],
-    table: Table,
-    labels: &Labels,
-    sheet: &mut [u8],
-    at: usize,
-    i: usize,
-    d: usize,
-    len: usize,
-) -> usize
-    requires { ⌜ CanTrace (now code) table (now labels) (now sheet) at i d len ⌝ }
-    ensures { λ r. ⌜
-        ((c : Cmd) (l : List Label) → Sits (now (code .entry)) c at → Stepping c i → LabelsHeld table l (now (labels .entry)) → Levels c (mostDeep - len)
-        → Traced (now (sheet .entry)) (now (sheet .exit)) len (pathTo l c d i) r)
-        ⌝ }
-{
-    match walking::seek(code, at, i) {
-        Way::Here => len,
-        Way::Into {
-            child,
-            there,
-            row,
-            deeper,
-        } => {
-            sheet[Checkpoint::CHILDREN + len] = child;
-            let size = trace(code, table, labels, sheet, there, row, d + deeper, len + 1);
-            sheet[Checkpoint::CHILDREN + size + len] = principal(table, labels[d + deeper]);
-            size
-        }
     }
 }
 
@@ -286,6 +247,9 @@ pub(crate) fn pause(
     sheet[2] = (third % 256) as u8;
     sheet[3] = (fourth % 256) as u8;
     sheet[Checkpoint::BLOCK] = block;
-    let size = trace(code, table, labels, sheet, 0, row, 0, 0);
-    sheet[Checkpoint::OPEN] = size as u8;
+    let names = names_of(table, labels);
+    match trail::trace(code, &names, sheet, 0, row, 0, 0) {
+        Search::Reached(size) => sheet[Checkpoint::OPEN] = size as u8,
+        Search::Passed(_) => {}
+    }
 }

@@ -30,11 +30,12 @@ mod second;
 mod slots;
 mod steps;
 mod stretches;
+mod trail;
 mod walking;
 
 pub use carrying::carry_on;
 pub use carrying::start;
-pub use checkpoint::Checkpoint;
+pub use trail::Checkpoint;
 
 // Plays the blocks of a programme that was taken in, and writes the end store; a halt leaves the output as it was.
 fn finish(

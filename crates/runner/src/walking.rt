@@ -1,4 +1,4 @@
-// Walking the code of a block that was read: where expressions and commands end, how many rows they have, their parts, and the way to a row.
+// Walking the code of a block that was read: where expressions and commands end, how many rows they have, and their parts.
 ghost use mathlib.Core.Path.{_≡_};
 ghost use Prim.Native.Nat.{ℕ, _≤_};
 ghost use lib.ListN.{length, getD};
@@ -8,8 +8,8 @@ ghost use Rattle.programme.specs.Sheet.{lent};
 ghost use Rattle.programme.specs.Syntax.{Cmd};
 ghost use Rattle.programme.specs.Rows.{between, size};
 ghost use Rattle.calculus.specs.Paths.{takesStep};
-ghost use Rattle.runner.specs.Layout.{Lies, Sits, SomeExpr, SomeCmd, SomeCmds, SkipsExpr, Skips, SkipsAll, SomeBlock, Stepping};
-ghost use Rattle.runner.specs.Parts.{PartAs, WayAs, CanSeek};
+ghost use Rattle.runner.specs.Layout.{Lies, Sits, SomeExpr, SomeCmd, Left, SomeCmds, SkipsExpr, Skips, SkipsAll, SomeBlock, blankEnd};
+ghost use Rattle.runner.specs.Parts.{PartAs};
 use programme::Spot;
 use store::Value;
 
@@ -29,17 +29,6 @@ pub enum Part {
     Nowhere,
 }
 
-// The next entry of the path to a row: the child, where it lies, the row counted from its first, and inside how many guards it stands.
-pub enum Way {
-    Here,
-    Into {
-        child: u8,
-        there: usize,
-        row: usize,
-        deeper: usize,
-    },
-}
-
 // A byte as a place; that it fits is known of an argument's type, not of a slice's element.
 pub(crate) fn wide8(x: u8) -> usize
     ensures { λ r. ⌜ r ≡ x ⌝ }
@@ -48,7 +37,7 @@ pub(crate) fn wide8(x: u8) -> usize
 }
 
 // Where the expression at `at` ends.
-fn skip_expr(code: &[u8], at: usize) -> usize
+pub(crate) fn skip_expr(code: &[u8], at: usize) -> usize
     requires { ⌜ SomeExpr (now code) at ⌝ }
     ensures { λ r. ⌜ SkipsExpr (now (code .entry)) at r ⌝ }
 {
@@ -63,14 +52,14 @@ fn skip_expr(code: &[u8], at: usize) -> usize
 }
 
 // The rows between the parts of an if whose else-part has n rows: a jump past it, or none.
-fn jump_rows(n: usize) -> usize
+pub(crate) fn jump_rows(n: usize) -> usize
     ensures { λ r. ⌜ r ≡ between n ⌝ }
 {
     if n == 0 { 0 } else { 1 }
 }
 
 // Where the command at `at` ends, and how many rows it has.
-fn span_at(code: &[u8], at: usize) -> Extent
+pub(crate) fn span_at(code: &[u8], at: usize) -> Extent
     requires { ⌜ SomeCmd (now code) at ⌝ }
     ensures { λ r. ⌜ Skips (now (code .entry)) at (r .end) (r .rows) ⌝ }
 {
@@ -138,6 +127,45 @@ pub(crate) fn rows_in(sheet: &[u8], start: usize, end: usize) -> usize
     whole.rows
 }
 
+// Where the command at `at` ends if it has no rows; else 0. Nothing is walked past the first row.
+fn blank_end(code: &[u8], at: usize) -> usize
+    requires { ⌜ SomeCmd (now code) at ⌝ }
+    ensures { λ r. ⌜ ((c : Cmd) (end : ℕ) → Lies (now (code .entry)) c at end → r ≡ blankEnd (size c) end) ⌝ }
+{
+    match code[at] {
+        Spot::SKIP => at + 1,
+        Spot::SEQUENCE => blank_all(code, at + 2, wide8(code[at + 1])),
+        _ => 0,
+    }
+}
+
+// The same of the n commands from `at` on.
+fn blank_all(code: &[u8], at: usize, n: usize) -> usize
+    requires { ⌜ SomeCmds (now code) at n ⌝ }
+    ensures { λ r. ⌜ ((end total : ℕ) → Left (now (code .entry)) at n 0 end total → r ≡ blankEnd total end) ⌝ }
+{
+    let mut here = at;
+    let mut left = n;
+    while 0 < left {
+        let next = blank_end(code, here);
+        if next == 0 {
+            return 0;
+        }
+        here = next;
+        left = left - 1;
+    }
+    here
+}
+
+// The rows between the parts of an if whose else-part is the command at `at`.
+fn jump_before(code: &[u8], at: usize) -> usize
+    requires { ⌜ SomeCmd (now code) at ⌝ }
+    ensures { λ r. ⌜ ((c : Cmd) (end : ℕ) → Lies (now (code .entry)) c at end → r ≡ between (size c)) ⌝ }
+{
+    let end = blank_end(code, at);
+    if end == 0 { 1 } else { 0 }
+}
+
 // The k-th part of the if at `at`, from 0.
 fn part_at(code: &[u8], at: usize, k: usize) -> Part
     requires { ⌜ SomeCmd (now code) at × (getD (now code) at 0 ≡ 0x23) ⌝ }
@@ -153,11 +181,11 @@ fn part_at(code: &[u8], at: usize, k: usize) -> Part
     }
     if k == 1 {
         let first = span_at(code, there);
-        let second = span_at(code, first.end);
+        let jump = jump_before(code, first.end);
         Part::Inside {
             there: first.end,
             deeper: 1,
-            rows: 1 + first.rows + jump_rows(second.rows),
+            rows: 1 + first.rows + jump,
         }
     } else {
         Part::Nowhere
@@ -209,82 +237,5 @@ pub(crate) fn takes_step(code: &[u8], at: usize) -> bool
         Spot::SKIP => false,
         Spot::SEQUENCE => false,
         _ => true,
-    }
-}
-
-// The child of the sequence at `at` that has its row i.
-fn seek_in(code: &[u8], at: usize, i: usize) -> Way
-    requires { ⌜ CanSeek (now code) at i × (getD (now code) at 0 ≡ 0x22) ⌝ }
-    ensures { λ r. ⌜ ((c : Cmd) → Sits (now (code .entry)) c at → Stepping c i → WayAs (now (code .entry)) c i r) ⌝ }
-{
-    let mut here = at + 2;
-    let mut row = i;
-    let mut child: u8 = 0;
-    loop {
-        let next = span_at(code, here);
-        let rows = next.rows;
-        if row < rows {
-            return Way::Into {
-                child,
-                there: here,
-                row,
-                deeper: 0,
-            };
-        }
-        here = next.end;
-        row -= rows;
-        child += 1;
-    }
-}
-
-// The way from the if at `at` to its row i.
-fn seek_part(code: &[u8], at: usize, i: usize) -> Way
-    requires { ⌜ CanSeek (now code) at i × (getD (now code) at 0 ≡ 0x23) ⌝ }
-    ensures { λ r. ⌜ ((c : Cmd) → Sits (now (code .entry)) c at → Stepping c i → WayAs (now (code .entry)) c i r) ⌝ }
-{
-    if i == 0 {
-        return Way::Here;
-    }
-    let there = skip_expr(code, at + 1);
-    let first = span_at(code, there);
-    let rows = first.rows;
-    if i <= rows {
-        return Way::Into {
-            child: 0,
-            there,
-            row: i - 1,
-            deeper: 1,
-        };
-    }
-    let second = span_at(code, first.end);
-    Way::Into {
-        child: 1,
-        there: first.end,
-        row: i - (1 + rows + jump_rows(second.rows)),
-        deeper: 1,
-    }
-}
-
-// The way from the command at `at` to its row i, which takes a step.
-pub(crate) fn seek(code: &[u8], at: usize, i: usize) -> Way
-    requires { ⌜ CanSeek (now code) at i ⌝ }
-    ensures { λ r. ⌜ ((c : Cmd) → Sits (now (code .entry)) c at → Stepping c i → WayAs (now (code .entry)) c i r) ⌝ }
-{
-    match code[at] {
-        Spot::SEQUENCE => seek_in(code, at, i),
-        Spot::IF => seek_part(code, at, i),
-        Spot::WHILE => {
-            if i == 0 {
-                return Way::Here;
-            }
-            let there = skip_expr(code, at + 1);
-            Way::Into {
-                child: 0,
-                there,
-                row: i - 1,
-                deeper: 1,
-            }
-        }
-        _ => Way::Here,
     }
 }

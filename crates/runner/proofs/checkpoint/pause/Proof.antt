@@ -2,8 +2,8 @@ use mathlib.Core.Path.{sym, _∙_}
 use native.Mathlib.Omega.{arith}
 use lib.ListN.{length-set}
 use borrow.Author.Needs.{needs}
-use Rattle.runner.proofs.Reading.{block-lies, block-levels}
-use Rattle.runner.proofs.Pausing.{traced-width}
+use Rattle.runner.proofs.Pausing.{search-whole, search-past, search-there}
+use Rattle.runner.proofs.Seeking.{block-seeks, not-past, traced-as}
 use Rattle.runner.proofs.Sheets.{cleared-width, paused}
 use Rattle.runner.proofs.checkpoint.pause.Statement.{statement}
 use Rattle.runner.proofs.checkpoint.pause.Tie as tie
@@ -38,43 +38,55 @@ slice-write-sheet-4 c = simp length-set (omega (arith, cleared-width _ (c .befor
 slice-write-sheet-5 : tie.Need-slice-write-sheet-5
 slice-write-sheet-5 c = simp length-set (omega (arith, cleared-width _ (c .before .before .clear .ensures)))
 
+names-of-requires : tie.Need-names-of-requires
+names-of-requires c κs = search needs
+
 trace-requires : tie.Need-trace-requires
 trace-requires c κs =
-    let p = c .before .before .before .before .before .before .before .pre in
+    let p = c .before .before .before .before .before .before .before .before .before .pre in
     record {
       command = p .command;
-      sits = record { end = _; lies = block-lies _ _ _ (p .was-read) };
-      steps = p .steps;
-      levels = block-levels _ _ _ (p .was-read);
-      labels = p .labels;
-      labels-held = p .labels-held;
-      table-good = p .table-good;
-      sheet-size = simp length-set (cleared-width _ (c .before .before .before .clear .ensures));
+      seeks = block-seeks _ _ _ _ (p .was-read) (p .steps);
+      sheet-size = simp length-set (cleared-width _ (c .before .before .before .before .before .clear .ensures));
       deep = omega arith;
     }
 
+enum-known-size : tie.Need-enum-known-size
+enum-known-size c = search needs
+
 cast-sheet-5 : tie.Need-cast-sheet-5
 cast-sheet-5 c =
-    let p = c .before .before .before .before .before .before .before .before .before .before .pre in
-    let i = c .before .before .trace .ensures (p .command) (p .labels) (record { end = _; lies = block-lies _ _ _ (p .was-read) }) (p .steps) (p .labels-held) (block-levels _ _ _ (p .was-read)) in
-    omega (arith, i .short)
+    let p = c .before .before .before .before .before .before .before .before .before .before .before .before .before .before .before .pre in
+    let e = c .before .before .before .before .before .trace .ensures (p .command) (block-seeks _ _ _ _ (p .was-read) (p .steps)) in
+    omega (arith, search-there _ e (c .before .size .given .1) .traced .short)
 
 slice-write-sheet-6 : tie.Need-slice-write-sheet-6
 slice-write-sheet-6 c =
-    let p = c .before .before .before .before .before .before .before .before .before .before .pre in
-    let i = c .before .before .trace .ensures (p .command) (p .labels) (record { end = _; lies = block-lies _ _ _ (p .was-read) }) (p .steps) (p .labels-held) (block-levels _ _ _ (p .was-read)) in
-    omega (arith, traced-width i (simp length-set (cleared-width _ (c .before .before .before .before .before .before .clear .ensures))))
+    let p = c .before .before .before .before .before .before .before .before .before .before .before .before .before .before .before .pre in
+    let e = c .before .before .before .before .before .trace .ensures (p .command) (block-seeks _ _ _ _ (p .was-read) (p .steps)) in
+    omega (arith, search-whole e (simp length-set (cleared-width _ (c .before .before .before .before .before .before .before .before .before .before .before .clear .ensures))))
+
+enum-told : tie.Need-enum-told
+enum-told c = search needs
 
 same-length : tie.Need-same-length
 same-length c =
-    let p = c .before .before .before .before .before .before .before .before .before .before .pre in
-    let i = c .before .before .trace .ensures (p .command) (p .labels) (record { end = _; lies = block-lies _ _ _ (p .was-read) }) (p .steps) (p .labels-held) (block-levels _ _ _ (p .was-read)) in
-    simp length-set (traced-width i (simp length-set (cleared-width _ (c .before .before .before .before .before .before .clear .ensures))) ∙ sym (p .sheet-size))
+    let p = c .before .before .before .before .before .before .before .before .before .before .before .before .before .before .before .pre in
+    let e = c .before .before .before .before .before .trace .ensures (p .command) (block-seeks _ _ _ _ (p .was-read) (p .steps)) in
+    simp length-set (search-whole e (simp length-set (cleared-width _ (c .before .before .before .before .before .before .before .before .before .before .before .clear .ensures))) ∙ sym (p .sheet-size))
 
 returns : tie.Need-returns
 returns c m x l s e h k z =
-    paused _ _ _ _ _ _ s (c .before .before .before .before .before .before .clear .ensures) z
-    (c .before .before .trace .ensures x l (record { end = _; lies = block-lies _ _ _ e }) k h (block-levels _ _ _ e))
+    paused _ _ _ _ _ _ s (c .before .before .before .before .before .before .before .before .before .before .before .clear .ensures) z
+    (traced-as _ l x _ _ (c .before .before .before .before .before .before .before .before .names-of .ensures l h) (search-there _ (c .before .before .before .before .before .trace .ensures x (block-seeks m _ _ x e k)) (c .before .size .given .1) .traced))
+
+same-length-2 : tie.Need-same-length-2
+same-length-2 c =
+    let p = c .before .before .before .before .before .before .before .before .before .before .before .before .before .before .pre in
+    absurd (not-past (search-past _ (c .before .before .before .before .trace .ensures (p .command) (block-seeks _ _ _ _ (p .was-read) (p .steps))) (c .enum-told .given .1)) (p .steps))
+
+returns-2 : tie.Need-returns-2
+returns-2 c m x l s e h k z = absurd (not-past (search-past _ (c .before .before .before .before .trace .ensures x (block-seeks m _ _ x e k)) (c .enum-told .given .1)) k)
 
 pub pause-spec : {M : Type 1} → statement M
 pause-spec =
@@ -90,8 +102,13 @@ pause-spec =
     cast-sheet-4
     slice-write-sheet-4
     slice-write-sheet-5
+    names-of-requires
     trace-requires
+    enum-known-size
     cast-sheet-5
     slice-write-sheet-6
+    enum-told
     same-length
-    returns)
+    returns
+    same-length-2
+    returns-2)

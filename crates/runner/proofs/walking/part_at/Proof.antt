@@ -1,7 +1,7 @@
 use native.Mathlib.Omega.{arith}
-use borrow.Author.Needs.{needs}
 use Rattle.runner.proofs.Lying.{some-within}
-use Rattle.runner.proofs.Skipping.{if-guard, some-else, if-span, span-within}
+use Rattle.runner.proofs.Skipping.{if-guard, some-else, span-within}
+use Rattle.runner.proofs.Blanks.{jump-few}
 use Rattle.runner.proofs.Children.{then-inside, else-inside, if-nowhere}
 use Rattle.runner.proofs.walking.part_at.Statement.{statement}
 use Rattle.runner.proofs.walking.part_at.Tie as tie
@@ -18,8 +18,8 @@ returns c = then-inside _ _ _ (c .before .before .before .pre .1) _ (c .before .
 span-at-requires : tie.Need-span-at-requires
 span-at-requires c κs = let p = c .before .before .before .before .pre in if-guard _ _ (p .1) _ (p .0) .1 (c .before .before .skip-expr .ensures) .0
 
-span-at-requires-2 : tie.Need-span-at-requires-2
-span-at-requires-2 c κs = let p = c .before .before .before .before .before .pre in some-else _ _ (p .1) _ (c .before .before .before .skip-expr .ensures) _ _ (c .span-at .ensures) (p .0) .0
+jump-before-requires : tie.Need-jump-before-requires
+jump-before-requires c κs = let p = c .before .before .before .before .before .pre in some-else _ _ (p .1) _ (c .before .before .before .skip-expr .ensures) _ _ (c .span-at .ensures) (p .0) .0
 
 add-t10 : tie.Need-add-t10
 add-t10 c =
@@ -27,18 +27,18 @@ add-t10 c =
     let b = span-within _ _ _ _ (c .before .before .span-at .ensures) (if-guard _ _ (p .1) _ (p .0) .1 (c .before .before .before .before .before .skip-expr .ensures) .0) in
     omega (arith, b .0, b .1)
 
-jump-rows-requires : tie.Need-jump-rows-requires
-jump-rows-requires c κs = search needs
-
-add-t12 : tie.Need-add-t12
-add-t12 c =
-    let p = c .before .before .before .before .before .before .before .before .pre in
-    let b = span-within _ _ _ _ (if-span _ _ (p .1) _ (c .before .before .before .before .before .before .skip-expr .ensures) _ _ (c .before .before .before .span-at .ensures) _ _ _ (c .before .before .span-at2 .ensures) (c .jump-rows .ensures)) (p .0) in
-    omega (arith, b .0, b .1)
+add-t11 : tie.Need-add-t11
+add-t11 c =
+    let p = c .before .before .before .before .before .before .before .pre in
+    let f = c .before .before .before .before .before .skip-expr .ensures in
+    let g = if-guard _ _ (p .1) _ (p .0) .1 f in
+    let b = span-within _ _ _ _ (c .before .before .span-at .ensures) (g .0) in
+    let e = some-else _ _ (p .1) _ f _ _ (c .before .before .span-at .ensures) (p .0) in
+    omega (arith, b .0, b .1, g .1, jump-few _ _ _ (c .before .jump-before .ensures) (e .0))
 
 returns-2 : tie.Need-returns-2
 returns-2 c =
-    else-inside _ _ _ (c .before .before .before .before .before .before .before .before .pre .1) _ (c .before .before .before .before .before .before .skip-expr .ensures) _ _ _ _ _ (c .before .before .before .before .if2 .taken) (c .before .before .before .span-at .ensures) (c .before .before .span-at2 .ensures) (c .jump-rows .ensures)
+    else-inside _ _ _ (c .before .before .before .before .before .before .before .pre .1) _ (c .before .before .before .before .before .skip-expr .ensures) _ _ _ (c .before .before .before .if2 .taken) (c .before .before .span-at .ensures) (c .before .jump-before .ensures)
 
 returns-3 : tie.Need-returns-3
 returns-3 c = if-nowhere _ _ _ (c .before .before .before .before .pre .1) _ (c .before .before .skip-expr .ensures) (c .before .if1 .left) (c .if2 .left)
@@ -51,9 +51,8 @@ part-at-spec =
     skip-expr-requires
     returns
     span-at-requires
-    span-at-requires-2
+    jump-before-requires
     add-t10
-    jump-rows-requires
-    add-t12
+    add-t11
     returns-2
     returns-3)
