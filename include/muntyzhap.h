@@ -1,5 +1,6 @@
 /*
- * The proved runner's static library, libcapi.a, for C and C++.
+ * The proved runner for C and C++: the library muntyzhap, static or shared. In
+ * the repository the static one is target/staticlib/libcapi.a.
  *
  * A sheet or an output is passed as a pointer and its length in bytes, a
  * journal as a pointer and its number of entries. Where the length is 0 the
@@ -29,6 +30,19 @@
 #ifdef __cplusplus
 extern "C" {
 #endif
+
+/* Version */
+
+/* Of this header. muntyzhap_version tells that of the library that a program
+ * runs with. */
+#define MUNTYZHAP_VERSION "0.1.0"
+#define MUNTYZHAP_VERSION_MAJOR 0
+#define MUNTYZHAP_VERSION_MINOR 1
+#define MUNTYZHAP_VERSION_PATCH 0
+/* The three as one number, so that a later version has a larger one. */
+#define MUNTYZHAP_VERSION_NUMBER                                               \
+    (MUNTYZHAP_VERSION_MAJOR * 1000000 + MUNTYZHAP_VERSION_MINOR * 1000 +      \
+     MUNTYZHAP_VERSION_PATCH)
 
 /* Answers */
 
@@ -242,6 +256,12 @@ typedef char muntyzhap_answer_has_32_bytes
     [sizeof(struct muntyzhap_answer) == 32 ? 1 : -1];
 
 /* Calls */
+
+/*
+ * The library's version, numbered as MUNTYZHAP_VERSION_NUMBER is. Where the two
+ * differ, the program was compiled with the header of another version.
+ */
+uint32_t muntyzhap_version(void);
 
 /*
  * Checks a store sheet. Answers 0 if it is good, else its refusal, 1 to 5.

@@ -205,10 +205,23 @@ static void try_pauses(void)
     carry_on("an unused byte altered", WRITES, paused.out, paused.pause);
 }
 
+/* Says whether the program was compiled with the header of the library that it
+ * runs with. */
+static void try_version(void)
+{
+    if (muntyzhap_version() == MUNTYZHAP_VERSION_NUMBER)
+        puts("version: the library's is the header's");
+    else
+        printf("version: the library's number is %" PRIu32
+               ", the header is of " MUNTYZHAP_VERSION "\n",
+               muntyzhap_version());
+}
+
 int main(void)
 {
     const struct bytes none = programme_sheet(NULL, 0);
 
+    try_version();
     try_rules(&none);
     try_null(&none);
     try_journals();

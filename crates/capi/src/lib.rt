@@ -7,8 +7,25 @@ ghost use Rattle.programme.specs.Sheet.{programmeSheet, checkAnswer};
 ghost use lib.ListN.{length};
 ghost use Rattle.calculus.specs.Run.{call, answer, output, journal as journalAfter};
 ghost use Rattle.calculus.specs.Stretches.{opening, checkpoint, stretch, ComesTo};
+ghost use Rattle.capi.specs.Version.{version};
 use store::Answer;
 use store::Entry;
+
+// Which version of the library this is.
+struct Version {}
+
+impl Version {
+    // 0.1.0: major, minor and patch have three digits each.
+    const NUMBER: u32 = 1_000;
+}
+
+// The version as one number, major × 1,000,000 + minor × 1,000 + patch.
+#[no_mangle]
+pub extern "C" fn muntyzhap_version() -> u32
+    ensures { λ r. ⌜ r ≡ version ⌝ }
+{
+    Version::NUMBER
+}
 
 // The refusal of a store sheet, 1 to 5, or 0.
 #[no_mangle]

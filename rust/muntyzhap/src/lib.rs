@@ -1,10 +1,11 @@
 //! The proved runner for Rust programs.
 //!
 //! It links the static library that `rt staticlib capi` writes (without it a
-//! program can be checked, but not built) and wraps its six calls:
-//! [`check_store`], [`check_table`], [`check_programme`] and [`run`], and for runs
-//! that can be paused [`start`] and [`carry_on`]. A refusal is a [`Refusal`], which
-//! says in words what was refused and, where the document gives one, its place.
+//! program can be checked, but not built) and wraps its seven calls:
+//! [`check_store`], [`check_table`], [`check_programme`] and [`run`], for runs that
+//! can be paused [`start`] and [`carry_on`], and [`version`]. A refusal is a
+//! [`Refusal`], which says in words what was refused and, where the document gives
+//! one, its place.
 //!
 //! Every length is right by the time the library sees it: a slice is passed
 //! with its own length, and whether that is what a sheet's sizes ask for, the
@@ -76,8 +77,8 @@
 //! [`code`] and [`sheet`] write sheets and read what a run leaves. They are a
 //! convenience and not proved. What no sheet can hold is a [`BuildError`] where
 //! it is made; whatever bytes they make, the library judges. [`raw`] has the same
-//! six calls with the numbers as the library gives them, and with output, journal
-//! and pause buffer lent by the caller.
+//! seven calls with the numbers as the library gives them, and with output,
+//! journal and pause buffer lent by the caller.
 //!
 //! # Long work in slices
 //!
@@ -155,6 +156,7 @@ mod report;
 mod rule;
 pub mod sheet;
 mod value;
+mod version;
 
 pub use crate::build_error::BuildError;
 pub use crate::checkpoint::Checkpoint;
@@ -166,12 +168,19 @@ pub use crate::refusal::{Place, Refusal, Stop};
 pub use crate::report::Report;
 pub use crate::rule::Rule;
 pub use crate::value::{Integer, Value};
+pub use crate::version::Version;
 
 /// The library's calls with numbers for answers, as document 01 numbers them.
 pub mod raw {
     pub use crate::library::{
-        carry_on, check_programme, check_store, check_table, run, start, Answer, Entry, Value,
+        carry_on, check_programme, check_store, check_table, run, start, version, Answer, Entry,
+        Value,
     };
+}
+
+/// The version of the library that is linked. It is this crate's own.
+pub fn version() -> Version {
+    Version::from_number(raw::version())
 }
 
 /// Checks a store sheet: refused by 1 to 5.

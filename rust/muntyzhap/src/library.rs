@@ -4,6 +4,8 @@
 #![allow(unsafe_code)]
 
 extern "C" {
+    fn muntyzhap_version() -> u32;
+
     fn muntyzhap_check_store(sheet: *const u8, sheet_length: usize) -> u32;
 
     fn muntyzhap_check_table(sheet: *const u8, sheet_length: usize) -> u32;
@@ -119,6 +121,11 @@ pub struct Entry {
 // but `out`, `journal`, `pause` and the numbers of the answer, and it keeps no
 // pointer. What comes back are plain integers, in the answer and in the entries
 // too, so nothing that it could answer or write is undefined behaviour.
+
+/// The library's version as one number: major × 1,000,000 + minor × 1,000 + patch.
+pub fn version() -> u32 {
+    unsafe { muntyzhap_version() }
+}
 
 /// The refusal of a store sheet, 1 to 5, or 0.
 pub fn check_store(sheet: &[u8]) -> u32 {

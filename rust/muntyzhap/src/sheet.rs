@@ -28,12 +28,18 @@ pub const MOST_BLOCKS: usize = 64;
 pub const MOST_CODE: usize = 16_384;
 
 /// The bytes of the sizes that either sheet starts with: one and two.
-const SIZES: usize = 3;
-const MASK_BYTES: usize = size_of::<u32>();
+pub const SIZES_BYTES: usize = 3;
+/// The bytes of each mask of a store sheet.
+pub const MASK_BYTES: usize = size_of::<u32>();
+/// The bytes of each owner of a store sheet.
+pub const OWNER_BYTES: usize = 1;
+/// The bytes of each region of a programme sheet.
+pub const REGION_BYTES: usize = 1;
+/// The bytes of each block's length in a programme sheet.
+pub const LENGTH_BYTES: usize = 2;
+/// The bytes of each floor of a programme sheet.
+pub const FLOOR_BYTES: usize = 1;
 /// What each block has in the three arrays of a programme sheet.
-const REGION_BYTES: usize = 1;
-const LENGTH_BYTES: usize = 2;
-const FLOOR_BYTES: usize = 1;
 const BLOCK_BYTES: usize = REGION_BYTES + LENGTH_BYTES + FLOOR_BYTES;
 
 /// Whether this is the number of a principal that some order table has.
@@ -113,7 +119,7 @@ pub fn output_bytes(store: &[u8]) -> usize {
 /// an owner or a value is ill-formed.
 pub fn end_store(store: &[u8], out: &[u8]) -> Option<Vec<Slot>> {
     let (principals, slots) = sizes(store)?;
-    let first = SIZES + principals * MASK_BYTES;
+    let first = SIZES_BYTES + principals * MASK_BYTES;
     let owners = store.get(first..first + slots)?;
     if out.len() != slots * Slot::BYTES {
         return None;
@@ -171,11 +177,11 @@ fn two_bytes(
 /// such as the place where a run was stopped.
 pub fn command_at(programme: &[u8], place: Place) -> Option<CommandKind> {
     let (blocks, _) = sizes(programme)?;
-    let lengths = programme.get(SIZES + blocks * REGION_BYTES..)?;
+    let lengths = programme.get(SIZES_BYTES + blocks * REGION_BYTES..)?;
     let mut lengths = lengths.chunks_exact(LENGTH_BYTES).take(blocks).map(number);
     let before: usize = lengths.by_ref().take(place.block).sum();
     let length = lengths.next()?;
-    let start = SIZES + blocks * BLOCK_BYTES + before;
+    let start = SIZES_BYTES + blocks * BLOCK_BYTES + before;
     let code = programme.get(start..start + length)?;
     CommandKind::from_byte(*code.get(place.offset)?)
 }
@@ -183,7 +189,7 @@ pub fn command_at(programme: &[u8], place: Place) -> Option<CommandKind> {
 /// The two sizes that a sheet starts with, if it can hold them.
 fn sizes(sheet: &[u8]) -> Option<(usize, usize)> {
     let (first, rest) = sheet.split_first()?;
-    let second = rest.get(..SIZES - 1)?;
+    let second = rest.get(..SIZES_BYTES - 1)?;
     Some((usize::from(*first), number(second)))
 }
 

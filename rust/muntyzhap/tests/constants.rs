@@ -1,5 +1,5 @@
 //! The header's constants are those of the crate, which the tests of the calls
-//! hold to the library.
+//! hold to the library; its version is the library's and this crate's.
 
 use std::collections::BTreeMap;
 
@@ -7,31 +7,47 @@ use muntyzhap::code::{
     CommandKind, DIFFERENCE, EQUAL, LESS_THAN, LITERAL, MOST_DEPTH, MOST_NESTED, READ, SUM,
 };
 use muntyzhap::sheet::{Block, Slot, MOST_BLOCKS, MOST_CODE, MOST_PRINCIPALS, MOST_SLOTS};
-use muntyzhap::{Checkpoint, Place, Refusal, Rule, Stop, Value, MOST_BUDGET};
+use muntyzhap::{raw, version, Checkpoint, Place, Refusal, Rule, Stop, Value, MOST_BUDGET};
 
 const HEADER: &str = include_str!("../../../include/muntyzhap.h");
 
 const PREFIX: &str = "MUNTYZHAP_";
 
-/// The constants that the header defines, by name.
+/// Each name that the header defines, without its prefix, and what it stands for.
+fn definitions() -> Vec<(String, String)> {
+    let whole_lines = HEADER.replace("\\\n", "");
+    let lines = whole_lines.lines();
+    let definitions = lines.filter_map(|line| line.strip_prefix("#define ")?.split_once(' '));
+    let named = definitions.map(|(name, meaning)| {
+        let name = name.strip_prefix(PREFIX).expect("the prefix");
+        let words: Vec<&str> = meaning.split_whitespace().collect();
+        (name.to_string(), words.join(" "))
+    });
+    named.collect()
+}
+
+/// The numbers that the header defines, by name. Its one text is its version.
 fn defined() -> BTreeMap<String, u64> {
     let mut all = BTreeMap::new();
-    let lines = HEADER.lines();
-    let definitions = lines.filter_map(|line| line.strip_prefix("#define ")?.split_once(' '));
-    for (name, meaning) in definitions {
-        let name = name.strip_prefix(PREFIX).expect("the prefix");
-        all.insert(name.to_string(), value(meaning, &all));
+    for (name, meaning) in definitions() {
+        if name != "VERSION" {
+            all.insert(name, value(&meaning, &all));
+        }
     }
     all
 }
 
-/// The value of a number, or of a sum of numbers and constants known by now.
+/// The value of a number, or of a sum of numbers, constants known by now, and
+/// products of these.
 fn value(meaning: &str, known: &BTreeMap<String, u64>) -> u64 {
     let sum = meaning
         .strip_prefix('(')
         .and_then(|sum| sum.strip_suffix(')'));
     if let Some(sum) = sum {
         return sum.split(" + ").map(|part| value(part, known)).sum();
+    }
+    if let Some((left, right)) = meaning.split_once(" * ") {
+        return value(left, known) * value(right, known);
     }
     if let Some(name) = meaning.strip_prefix(PREFIX) {
         return known[name];
@@ -124,9 +140,30 @@ fn bytes() -> Vec<(&'static str, u64)> {
     bytes.map(|(name, byte)| (name, byte.into())).to_vec()
 }
 
+fn versions() -> Vec<(&'static str, u64)> {
+    let numbers = [
+        ("VERSION_MAJOR", version().major),
+        ("VERSION_MINOR", version().minor),
+        ("VERSION_PATCH", version().patch),
+        ("VERSION_NUMBER", raw::version()),
+    ];
+    numbers.map(|(name, number)| (name, number.into())).to_vec()
+}
+
+/// The library's, the header's and this crate's, which is the whole workspace's.
+#[test]
+fn there_is_one_version() {
+    let own = env!("CARGO_PKG_VERSION");
+    assert_eq!(version().to_string(), own);
+    let texts = definitions();
+    let texts = texts.iter().filter(|(name, _)| name == "VERSION");
+    let texts: Vec<&str> = texts.map(|(_, text)| text.as_str()).collect();
+    assert_eq!(texts, [format!("\"{own}\"")]);
+}
+
 #[test]
 fn the_header_has_the_crate_s_constants_and_no_others() {
-    let all = [refusals(), rules_and_limits(), bytes()].concat();
+    let all = [versions(), refusals(), rules_and_limits(), bytes()].concat();
     let all = all
         .into_iter()
         .map(|(name, number)| (name.to_string(), number));

@@ -56,6 +56,7 @@ fn the_calls_are_read_whole() {
         "muntyzhap_check_table",
         "muntyzhap_run",
         "muntyzhap_start",
+        "muntyzhap_version",
     ];
     assert_eq!(names, expected);
     let carry_on = "store *const u8, store_length usize, programme *const u8, \
@@ -74,9 +75,12 @@ fn the_calls_are_read_whole() {
                  programme_length usize, rule u32, budget u32, out *mut u8, out_length usize, \
                  pause *mut u8, pause_length usize";
     assert_eq!(listed(&functions[5].parameters), start);
+    assert_eq!(listed(&functions[6].parameters), "");
     let results: Vec<&str> = functions.iter().map(|one| one.result.as_str()).collect();
     let answer = "Answer";
-    assert_eq!(results, [answer, "u32", "u32", "u32", answer, answer]);
+    let (check, version) = ("u32", "u32");
+    let expected = [answer, check, check, check, answer, answer, version];
+    assert_eq!(results, expected);
 }
 
 #[test]
@@ -142,6 +146,7 @@ fn a_changed_definition_is_seen() {
         ("old: &[u8]", "old: &mut [u8]"),
         ("pause: &mut [u8]", "pause: &[u8]"),
         (") -> u32", ") -> u64"),
+        ("muntyzhap_version()", "muntyzhap_version(part: u32)"),
         ("muntyzhap_check_table", "muntyzhap_check_tables"),
         ("extern \"C\" fn muntyzhap_run", "fn muntyzhap_run"),
         ("pub payload: u64", "pub payload: u32"),
@@ -172,6 +177,7 @@ fn a_changed_declaration_is_seen() {
         ("old: *const u8", "old_output: *const u8"),
         ("        old_length: usize,\n", ""),
         ("-> u32;", "-> u8;"),
+        ("muntyzhap_version()", "muntyzhap_version(part: u32)"),
         ("pub slot: usize", "pub slot: u8"),
         ("pub old_value: Value", "pub held: Value"),
         ("#[repr(C)]", ""),
@@ -188,6 +194,11 @@ fn a_changed_declaration_is_seen() {
         ("uint8_t *pause", "const uint8_t *pause"),
         ("const uint8_t *old", "uint8_t *old"),
         ("muntyzhap_carry_on(", "muntyzhap_carry("),
+        (
+            "muntyzhap_version(void)",
+            "muntyzhap_version(uint32_t part)",
+        ),
+        ("uint32_t muntyzhap_version", "uint64_t muntyzhap_version"),
         (
             "struct muntyzhap_entry *journal",
             "struct muntyzhap_value *journal",

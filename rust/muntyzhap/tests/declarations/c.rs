@@ -4,10 +4,13 @@ use super::{field_name, Declared, Function, Named, Struct};
 
 /// What the header's names start with.
 const PREFIX: &str = "muntyzhap_";
+/// What ends a line that goes on in the next.
+const CONTINUED: &str = "\\\n";
 
 /// The functions that a C header declares, and its structs.
 pub fn of_c(header: &str) -> Declared {
-    let header = without_directives(&without_block_comments(header));
+    let header = header.replace(CONTINUED, "");
+    let header = without_directives(&without_block_comments(&header));
     let header = header.replace("extern \"C\" {", "");
     let (structs, rest) = structs_and_rest(&header);
     let rest = rest.replace('}', "");
@@ -64,10 +67,13 @@ fn struct_name(name: &str) -> String {
 fn function(text: &str) -> Function {
     let (head, parameters) = text.split_once('(').expect("parameters");
     let (name, result) = name_and_type(head);
-    let parameters = parameters.trim().trim_end_matches(')').split(',');
+    let parameters = match parameters.trim().trim_end_matches(')') {
+        "void" => vec![],
+        some => some.split(',').map(name_and_type).collect(),
+    };
     Function {
         name,
-        parameters: parameters.map(name_and_type).collect(),
+        parameters,
         result,
     }
 }
