@@ -71,6 +71,11 @@ impl Journal {
         Journal { length, writes }
     }
 
+    /// How many entries are lent.
+    pub fn length(&self) -> usize {
+        self.length
+    }
+
     /// Whether "no entry is free".
     pub fn is_full(&self) -> bool {
         self.writes.len() == self.length

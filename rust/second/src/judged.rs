@@ -8,6 +8,7 @@ use crate::programme::ProgrammeSheet;
 use crate::rule::{Budget, RuleSet};
 use crate::run::{End, Run};
 use crate::sheet::Store;
+use crate::watch::Watch;
 
 /// A call whose arguments and sheets are good.
 pub(crate) struct Judged {
@@ -41,7 +42,7 @@ impl Judged {
     }
 
     /// Runs the blocks from there on, over its store.
-    pub fn run(self, from: Pause, journal: Option<Journal>) -> End {
+    pub fn run(self, from: Pause, journal: Option<Journal>, watch: &mut impl Watch) -> End {
         let run = Run {
             store: self.store,
             rule: self.rule,
@@ -49,6 +50,7 @@ impl Judged {
             steps: from.steps,
             journal,
             block: from.way.block,
+            watch,
         };
         run.blocks(&self.blocks, &from.way)
     }

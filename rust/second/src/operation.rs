@@ -24,7 +24,11 @@ impl Operator {
 
     pub fn from_byte(byte: u8) -> Option<Operator> {
         let mut all = Operator::ALL.into_iter();
-        all.find(|operator| *operator as u8 == byte)
+        all.find(|operator| operator.byte() == byte)
+    }
+
+    pub fn byte(self) -> u8 {
+        self as u8
     }
 
     /// What comes of two values, or None if their kinds are wrong for it: all

@@ -1,11 +1,10 @@
 //! The rule sets and the budget: what the caller chooses, and what an
 //! assignment or a value is judged by.
 
-use crate::answer::Refusal;
 use crate::order::{Order, Principal};
 use crate::programme::Region;
 use crate::sheet::Table;
-use crate::value::Value;
+use crate::value::{SlotNumber, Value};
 
 /// The most steps a run may do.
 #[derive(Debug, Clone, Copy)]
@@ -16,6 +15,10 @@ impl Budget {
 
     pub fn from_steps(steps: u32) -> Option<Budget> {
         (steps <= Budget::MOST_STEPS).then_some(Budget(steps))
+    }
+
+    pub fn steps(self) -> u32 {
+        self.0
     }
 
     /// "if steps done equal the budget, the run is spent". Where a run is carried
@@ -33,6 +36,18 @@ pub(crate) struct Labels {
     pub target: Principal,
     pub value: Principal,
     pub branch: Principal,
+}
+
+/// Why an assignment may not pass.
+#[derive(Debug, Clone, Copy)]
+pub(crate) enum Objection {
+    /// 14
+    NoAuthority,
+    /// 16: the meet of the labels judged stands too low.
+    ProvenanceTooLow {
+        meet: Principal,
+        branch_judged: bool,
+    },
 }
 
 #[derive(Debug, Clone, Copy, PartialEq, Eq)]
@@ -64,14 +79,21 @@ impl RuleSet {
     }
 
     /// Judges a literal or the result of a read by 15. Under rule 1 a write
-    /// view "must have an owner at or below the region"; no other rule asks.
-    pub fn judge_value(self, table: &Table, region: Region, value: Value) -> Result<(), Refusal> {
+    /// view "must have an owner at or below the region"; no other rule asks. The
+    /// slot and its owner, where it has not.
+    pub fn denied(
+        self,
+        table: &Table,
+        region: Region,
+        value: Value,
+    ) -> Option<(SlotNumber, Principal)> {
         match (self, value) {
             (RuleSet::Capability, Value::WriteView(slot)) => {
-                let allowed = table.order.at_or_below(table.owner(slot), region.principal);
-                allowed.then_some(()).ok_or(Refusal::WriteViewNotAllowed)
+                let owner = table.owner(slot);
+                let allowed = table.order.at_or_below(owner, region.principal);
+                (!allowed).then_some((slot, owner))
             }
-            _ => Ok(()),
+            _ => None,
         }
     }
 
@@ -83,15 +105,19 @@ impl RuleSet {
         region: Region,
         owner: Principal,
         labels: Labels,
-    ) -> Result<(), Refusal> {
+    ) -> Result<(), Objection> {
         if self.asks_authority() && !order.at_or_below(owner, region.principal) {
-            return Err(Refusal::NoAuthority);
+            return Err(Objection::NoAuthority);
         }
-        let judged = self.meet_of_judged(order, labels);
-        if judged.is_some_and(|meet| !reaches(order, meet, owner, region.endorsed_down_to)) {
-            return Err(Refusal::ProvenanceTooLow);
+        match self.meet_of_judged(order, labels) {
+            Some(meet) if !reaches(order, meet, owner, region.endorsed_down_to) => {
+                Err(Objection::ProvenanceTooLow {
+                    meet,
+                    branch_judged: self == RuleSet::FullProvenance,
+                })
+            }
+            _ => Ok(()),
         }
-        Ok(())
     }
 
     /// Rules 2 and 3 contain rule 0; rule 1 judges write views as they turn

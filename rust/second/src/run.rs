@@ -13,7 +13,8 @@ use crate::pause::Pause;
 use crate::programme::Region;
 use crate::rule::{Budget, RuleSet};
 use crate::sheet::Store;
-use crate::step::Guard;
+use crate::step::Cause;
+use crate::watch::{Here, Watch};
 use crate::way::{Taken, Way};
 
 /// What a run comes to.
@@ -50,7 +51,7 @@ impl Stop {
     }
 }
 
-pub(crate) struct Run {
+pub(crate) struct Run<'a, W> {
     pub store: Store,
     pub rule: RuleSet,
     pub budget: Budget,
@@ -59,9 +60,10 @@ pub(crate) struct Run {
     pub journal: Option<Journal>,
     /// The number of the block that is running.
     pub block: usize,
+    pub watch: &'a mut W,
 }
 
-impl Run {
+impl<W: Watch> Run<'_, W> {
     /// "Blocks run in order." The first that runs is the way's, of which nothing
     /// is done that was done before.
     pub fn blocks(mut self, blocks: &[Block], from: &Way) -> End {
@@ -98,6 +100,7 @@ impl Run {
     /// Runs a command under a branch label, or what is left of it where there is
     /// a way to go inside. The label is handed inwards only, so whatever a part
     /// was run under, the outer one is back after it.
+    #[inline]
     fn command(
         &mut self,
         region: Region,
@@ -115,37 +118,37 @@ impl Run {
     }
 
     fn whole(&mut self, region: Region, command: &Command, branch: Principal) -> Result<(), Stop> {
-        let here = |refusal| {
-            Stop::at(BlockRefusal {
-                refusal,
-                offset: command.offset,
-            })
+        let here = Here {
+            block: self.block,
+            offset: command.offset,
+            region,
+            branch,
         };
         match &command.form {
             Form::Skip => Ok(()),
             Form::Assignment { target, value } => {
-                let (slot, value) = self
-                    .judge_assignment(region, target, value, branch)
-                    .map_err(here)?;
-                self.write(command.offset, slot, value);
-                Ok(())
+                let done = self.assignment(here, target, value);
+                done.map_err(|cause| self.stop(here, *cause))
             }
             Form::Sequence(_) => self.children(region, command, branch, 0),
             Form::If { guard, .. } => {
-                let guard = self.guard(region, guard).map_err(here)?;
-                let child = match guard.holds {
+                let lead = self
+                    .guard(here, guard)
+                    .map_err(|cause| self.stop(here, *cause))?;
+                let child = match lead.holds {
                     true => Command::THEN_PART,
                     false => Command::ELSE_PART,
                 };
-                self.part(region, command, self.inside(child, branch, &guard), &[])
+                self.part(region, command, lead.into_part(child), &[])
             }
             Form::While { guard, .. } => loop {
-                let guard = self.guard(region, guard).map_err(here)?;
-                if !guard.holds {
+                let lead = self
+                    .guard(here, guard)
+                    .map_err(|cause| self.stop(here, *cause))?;
+                if !lead.holds {
                     return Ok(());
                 }
-                let body = self.inside(Command::BODY, branch, &guard);
-                self.part(region, command, body, &[])?;
+                self.part(region, command, lead.into_part(Command::BODY), &[])?;
             },
         }
     }
@@ -182,6 +185,7 @@ impl Run {
     }
 
     /// Runs a part that is taken, or what is left of it.
+    #[inline]
     fn part(
         &mut self,
         region: Region,
@@ -189,19 +193,25 @@ impl Run {
         taken: Taken,
         way: &[Taken],
     ) -> Result<(), Stop> {
-        match command.part(taken.child) {
-            Some(part) => self
-                .command(region, part, taken.label, way)
-                .map_err(|stop| stop.inside(taken)),
-            // No part is taken that there is not.
-            None => Ok(()),
-        }
+        // No part is taken that there is not.
+        let Some(part) = command.part(taken.child) else {
+            return Ok(());
+        };
+        self.watch.entered(command, taken);
+        self.command(region, part, taken.label, way)
+            .map_err(|stop| stop.inside(taken))?;
+        self.watch.left(command);
+        Ok(())
     }
 
-    /// Inside a part the branch label is "the meet of the outer one and the
-    /// guard's label".
-    fn inside(&self, child: u8, outer: Principal, guard: &Guard) -> Taken {
-        let label = self.store.table.order.meet(outer, guard.label);
-        Taken { child, label }
+    /// The run is refused at this command.
+    #[cold]
+    fn stop(&mut self, here: Here, cause: Cause<W::Trail>) -> Stop {
+        let refused = BlockRefusal {
+            refusal: cause.refusal(),
+            offset: here.offset,
+        };
+        self.watch.stopped(here, self.steps, cause);
+        Stop::at(refused)
     }
 }

@@ -5,6 +5,9 @@ use crate::answer::{Answer, Refusal};
 use crate::judged::Judged;
 use crate::pause::Pause;
 use crate::run::End;
+use crate::tell;
+use crate::told::{Step, Told};
+use crate::watch::{Unwatched, Watch};
 
 /// Judges both sheets and the arguments and runs the blocks. If they finish, writes
 /// the end store to `output`; if the budget is spent, what the slots hold then, and
@@ -17,10 +20,35 @@ pub fn start(
     output: &mut [u8],
     pause: &mut [u8],
 ) -> Answer {
-    let end = Judged::judge(store, programme, rule, budget).and_then(|judged| {
+    let judged = Judged::judge(store, programme, rule, budget);
+    start_watched(judged, output, pause, &mut Unwatched)
+}
+
+/// The same, which tells each step to `each` as it is made, and what it saw of the
+/// step that was refused.
+pub fn start_told(
+    store: &[u8],
+    programme: &[u8],
+    rule: u32,
+    budget: u32,
+    output: &mut [u8],
+    pause: &mut [u8],
+    each: &mut dyn FnMut(&Step),
+) -> Told {
+    let judged = Judged::judge(store, programme, rule, budget);
+    tell::told(each, |watch| start_watched(judged, output, pause, watch))
+}
+
+fn start_watched(
+    judged: Result<Judged, Answer>,
+    output: &mut [u8],
+    pause: &mut [u8],
+    watch: &mut impl Watch,
+) -> Answer {
+    let end = judged.and_then(|judged| {
         judged.judge_output(output)?;
         judge_pause(pause)?;
-        Ok(judged.run(Pause::opening(), None))
+        Ok(judged.run(Pause::opening(), None, watch))
     });
     written(end, output, pause)
 }
@@ -39,13 +67,46 @@ pub fn carry_on(
     output: &mut [u8],
     pause: &mut [u8],
 ) -> Answer {
-    let end = Judged::judge(store, programme, rule, budget).and_then(|judged| {
+    let judged = Judged::judge(store, programme, rule, budget);
+    let old = (old_output, old_pause);
+    carry_on_watched(judged, old, output, pause, &mut Unwatched)
+}
+
+/// The same, which tells each step of this stretch to `each` as it is made, and
+/// what it saw of the step that was refused.
+#[allow(clippy::too_many_arguments)]
+pub fn carry_on_told(
+    store: &[u8],
+    programme: &[u8],
+    rule: u32,
+    budget: u32,
+    old_output: &[u8],
+    old_pause: &[u8],
+    output: &mut [u8],
+    pause: &mut [u8],
+    each: &mut dyn FnMut(&Step),
+) -> Told {
+    let judged = Judged::judge(store, programme, rule, budget);
+    let old = (old_output, old_pause);
+    tell::told(each, |watch| {
+        carry_on_watched(judged, old, output, pause, watch)
+    })
+}
+
+fn carry_on_watched(
+    judged: Result<Judged, Answer>,
+    (old_output, old_pause): (&[u8], &[u8]),
+    output: &mut [u8],
+    pause: &mut [u8],
+    watch: &mut impl Watch,
+) -> Answer {
+    let end = judged.and_then(|judged| {
         judged.judge_output(old_output)?;
         judge_pause(old_pause)?;
         judged.judge_output(output)?;
         judge_pause(pause)?;
         let (judged, from) = taken_up(judged, old_output, old_pause).ok_or(Refusal::Checkpoint)?;
-        Ok(judged.run(from, None))
+        Ok(judged.run(from, None, watch))
     });
     written(end, output, pause)
 }
