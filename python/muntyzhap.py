@@ -545,8 +545,8 @@ _MOST_SIZE = 2 ** (8 * ctypes.sizeof(ctypes.c_size_t)) - 1
 
 
 def _bytes(name: str, buffer: Buffer) -> bytes:
-    # What can be written to is copied, since other threads run during a call.
-    if isinstance(buffer, bytes):
+    # What can be written to is copied, since other threads run during a call. So is a class of its own, which may say another length than it has.
+    if type(buffer) is bytes:
         return buffer
     try:
         return bytes(memoryview(buffer))

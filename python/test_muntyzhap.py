@@ -403,6 +403,16 @@ class Runs(unittest.TestCase):
                     call(budget=budget)
                 self.assertEqual(caught.exception.number, Refusal.ARGUMENTS)
 
+    def test_a_length_that_a_class_makes_up_is_not_believed(self):
+        class Longer(bytes):
+            def __len__(self):
+                return 10 * super().__len__()
+
+        self.assertIsNone(muntyzhap.check_store(Longer(STORE)))
+        with self.assertRaises(Refused) as caught:
+            muntyzhap.check_store(Longer(STORE[:-1]))
+        self.assertEqual(caught.exception.number, Refusal.STORE_LENGTH)
+
     def test_buffers_of_all_kinds(self):
         expected = muntyzhap.run(STORE, TWO_BLOCKS, ACCESS)
         spaced = bytes(byte for one in STORE for byte in (one, 0xA5))

@@ -21,7 +21,7 @@ impl Beside<'_> {
     /// not good nothing is said here: it is refused itself.
     pub fn agree(&self) -> Result<(), Failure> {
         let Some(own) = &self.assembled.tables else {
-            return Ok(());
+            return self.numbers_are_the_stores();
         };
         let Some(store) = inspect::store_model(self.store) else {
             return Ok(());
@@ -34,6 +34,28 @@ impl Beside<'_> {
             ))),
             None => Ok(()),
         }
+    }
+
+    /// A programme's text without tables calls principals and slots by their numbers.
+    /// The store's text may not mean others by these names.
+    fn numbers_are_the_stores(&self) -> Result<(), Failure> {
+        let names = [
+            (&self.store_names.principals, Names::PRINCIPAL, "principal"),
+            (&self.store_names.slots, Names::SLOT, "slot"),
+        ];
+        for (names, letter, what) in names {
+            for (number, name) in names.iter().enumerate() {
+                let digits = name.strip_prefix(letter).unwrap_or_default();
+                if let Some(meant) = digits.parse().ok().filter(|meant: &usize| *meant != number) {
+                    return Err(Failure::told(format!(
+                        "{} declares no principals and slots, so {name} is {what} {meant} there, and in {} it is {what} \
+                         {number}: declare them in {0} as well, without values",
+                        self.name, self.store_name
+                    )));
+                }
+            }
+        }
+        Ok(())
     }
 
     fn numbers(&self, own: &Tables, store: &Store) -> Option<String> {

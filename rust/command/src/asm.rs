@@ -1,7 +1,10 @@
-//! `muntyzhap asm`: a text becomes sheets.
+//! `muntyzhap asm`: a text becomes sheets, or the code of its block.
 
 use std::io::{self, IsTerminal};
 
+use model::count;
+
+use crate::blocks;
 use crate::ending::{Ended, Failure, Status};
 use crate::files;
 use crate::input::{assembled, not_text};
@@ -25,9 +28,11 @@ pub fn run(given: &Given, streams: &mut Streams) -> Ended {
     }
     let (name, bytes) = (files::name(file), files::read(file)?);
     if let Some(wrong) = not_text(&bytes) {
-        return Err(Failure::told(format!(
-            "{name}: {wrong}; `muntyzhap dis` lists sheets"
-        )));
+        let listed = match wrong.hint {
+            Some(_) => "",
+            None => "; `muntyzhap dis` lists sheets",
+        };
+        return Err(Failure::told(format!("{name}: {wrong}{listed}")));
     }
     let sheets = sheets(given, &name, &String::from_utf8_lossy(&bytes))?;
     match out.filter(|out| *out != STANDARD_OUTPUT) {
@@ -50,6 +55,23 @@ fn sheets(given: &Given, name: &str, text: &str) -> Result<Vec<u8>, Failure> {
             .collect()),
         Some("store") => text.store.ok_or_else(|| lacks("store")),
         Some("programme") => text.programme.ok_or_else(|| lacks("programme")),
-        Some(other) => Err(given.wrong(format!("--only: {other} is not store or programme"))),
+        Some("code") => code(name, &text.programme.ok_or_else(|| lacks("programme"))?),
+        Some(other) => Err(given.wrong(format!("--only: {other} is not store, programme or code"))),
     }
+}
+
+/// The code of the one block, as `--block` takes it.
+fn code(name: &str, programme: &[u8]) -> Result<Vec<u8>, Failure> {
+    let starts = blocks::starts(programme);
+    let code = match starts[..] {
+        [start] => programme.get(start..),
+        _ => None,
+    };
+    let number = count(starts.len(), "block");
+    let wrong = || {
+        Failure::told(format!(
+            "{name} has {number}: --only code needs a text with exactly one"
+        ))
+    };
+    code.map(<[u8]>::to_vec).ok_or_else(wrong)
 }

@@ -1,13 +1,17 @@
 //! The blocks of a programme sheet as bytes, and code from other files put in.
 
+use std::borrow::Cow;
 use std::ffi::OsStr;
 
 use model::{count, Block, Code, Floor, Names, Programme};
-use muntyzhap::sheet::{Block as Built, FLOOR_BYTES, LENGTH_BYTES, REGION_BYTES};
+use muntyzhap::sheet::{
+    Block as Built, FLOOR_BYTES, LENGTH_BYTES, MOST_BLOCKS, MOST_CODE, REGION_BYTES,
+};
 
 use crate::close::perhaps;
 use crate::ending::Failure;
 use crate::files;
+use crate::hints;
 use crate::job::Job;
 use crate::options::{split, Given};
 
@@ -71,12 +75,28 @@ enum Target {
     New(u8),
 }
 
+impl Target {
+    /// Of a block that there is.
+    fn number(self) -> Option<usize> {
+        match self {
+            Target::Named(block) | Target::Only(block) => Some(block),
+            Target::New(_) => None,
+        }
+    }
+}
+
+/// A file that is to be the code of a block.
+struct Asked<'a> {
+    name: Cow<'a, str>,
+    path: &'a OsStr,
+}
+
 /// Puts code from files into the programme, as `--block NAME=FILE` asks, and says
 /// of each where it went. The region is the laboratory's choice: nothing in the
 /// file has a say in it.
 pub fn put_in(job: &mut Job, given: &Given) -> Result<Vec<String>, Failure> {
+    let asked = asked(given)?;
     let mut notes = vec![];
-    let asked: Vec<&OsStr> = given.values("--block").collect();
     if asked.is_empty() {
         return Ok(notes);
     }
@@ -84,25 +104,83 @@ pub fn put_in(job: &mut Job, given: &Given) -> Result<Vec<String>, Failure> {
         let note = "--block: nothing is put in, since the programme sheet is damaged";
         return Ok(vec![note.to_string()]);
     };
+    let slots = job.store_read().sizes.map_or(0, |sizes| sizes.slots);
     // Names mean the programme as it was, whatever is put in before.
-    let original = programme.clone();
+    let targets = targets(&asked, &programme, job)?;
     let mut taken = vec![];
-    for asked in asked {
-        let (name, file) = split(asked);
-        let file = file.filter(|file| !file.is_empty() && !name.is_empty());
-        let wrong = || given.wrong("--block needs NAME=FILE after it");
-        let (name, file) = (name.to_string_lossy(), file.ok_or_else(wrong)?);
-        let target = find(&name, &original, job)?;
-        if taken.contains(&target) && !matches!(target, Target::New(_)) {
-            return Err(Failure::told(format!("--block {name}: it is given twice")));
-        }
-        taken.push(target);
-        let code = files::read(file)?;
-        notes.push(put(job, &mut programme, target, &files::name(file), code));
+    for (asked, target) in asked.iter().zip(targets) {
+        let (file, code) = (files::name(asked.path), files::read(asked.path)?);
+        let hint = hints::no_code(&file, &code, slots);
+        let number = put(&mut programme, target, code);
+        job.names.blocks.resize(programme.blocks.len(), None);
+        job.sources.block(number, &asked.name, &file);
+        notes.push(note(job, &programme, target, number, &file));
+        notes.extend(hint);
+        taken.push((number, file));
     }
+    fits(&programme, &taken, job)?;
     job.programme = notation::programme_bytes(&programme)
         .map_err(|error| Failure::told(format!("--block: {error}")))?;
     Ok(notes)
+}
+
+fn asked(given: &Given) -> Result<Vec<Asked<'_>>, Failure> {
+    let mut all: Vec<Asked> = vec![];
+    for asked in given.values("--block") {
+        let (name, path) = split(asked);
+        let path = path.filter(|path| !path.is_empty() && !name.is_empty());
+        let wrong = || given.wrong("--block needs NAME=FILE after it");
+        let (name, path) = (name.to_string_lossy(), path.ok_or_else(wrong)?);
+        if all.iter().any(|other| other.name == name) {
+            return Err(Failure::told(format!("--block {name}: it is given twice")));
+        }
+        all.push(Asked { name, path });
+    }
+    Ok(all)
+}
+
+/// Where each goes. A block by its name and by its region is one block.
+fn targets(asked: &[Asked], programme: &Programme, job: &Job) -> Result<Vec<Target>, Failure> {
+    let mut targets: Vec<Target> = vec![];
+    for Asked { name, .. } in asked {
+        let target = find(name, programme, job)?;
+        let same = |other: &Target| target.number().is_some() && other.number() == target.number();
+        if let Some(other) = targets.iter().position(same) {
+            let other = &asked[other].name;
+            return Err(Failure::told(format!(
+                "--block {name}: that is the block {other}, which is given too"
+            )));
+        }
+        targets.push(target);
+    }
+    Ok(targets)
+}
+
+/// Refuses more blocks or code than a sheet takes. Of several files the one with
+/// the most code is told.
+fn fits(programme: &Programme, taken: &[(usize, String)], job: &Job) -> Result<(), Failure> {
+    let blocks = &programme.blocks;
+    let own = |number: usize| blocks.get(number).map_or(0, length);
+    let Some((number, file)) = taken.iter().max_by_key(|(number, _)| own(*number)) else {
+        return Ok(());
+    };
+    let region = blocks.get(*number).map_or(0, |block| block.region);
+    let region = job.names.principal(region.into());
+    let (own, all) = (own(*number), blocks.iter().map(length).sum::<usize>());
+    if all > MOST_CODE {
+        let (own, others) = (count(own, "byte"), all - own);
+        return Err(Failure::told(format!(
+            "{file}: too long for block {number}, region {region}: it has {own} of code and the other blocks \
+             {others}, and a programme has at most {MOST_CODE} bytes of code in all"
+        )));
+    }
+    if blocks.len() > MOST_BLOCKS {
+        let number = blocks.len();
+        return Err(Failure::told(format!(
+            "{file}: too many blocks: there would be {number}, and a programme has at most {MOST_BLOCKS}"
+        )));
+    }
+    Ok(())
 }
 
 /// Which block a name means: the one of that name, or the one block of the region
@@ -152,35 +230,35 @@ fn several(name: &str, blocks: &[usize], names: &Names) -> Failure {
     ))
 }
 
-/// Puts it there, and says so.
-fn put(
-    job: &mut Job,
-    programme: &mut Programme,
-    target: Target,
-    file: &str,
-    code: Vec<u8>,
-) -> String {
-    let size = count(code.len(), "byte");
-    let (number, what) = match target {
-        Target::Named(block) => (block, "by its name"),
-        Target::Only(block) => (block, "the one block of its region"),
-        Target::New(_) => (programme.blocks.len(), "a new last block"),
-    };
+/// Puts it there, and gives the block's number.
+fn put(programme: &mut Programme, target: Target, code: Vec<u8>) -> usize {
     let code = Code::Raw(code);
     match target {
-        Target::Named(block) | Target::Only(block) => programme.blocks[block].code = code,
+        Target::Named(block) | Target::Only(block) => {
+            programme.blocks[block].code = code;
+            block
+        }
         Target::New(region) => {
-            job.names.blocks.resize(number, None);
             let floor = Floor::Ignored(0);
             programme.blocks.push(Block {
                 region,
                 floor,
                 code,
             });
+            programme.blocks.len() - 1
         }
     }
-    job.sources.block(number, file);
+}
+
+/// Where a file's code went.
+fn note(job: &Job, programme: &Programme, target: Target, number: usize, file: &str) -> String {
+    let what = match target {
+        Target::Named(_) => "by its name",
+        Target::Only(_) => "the one block of its region",
+        Target::New(_) => "a new last block",
+    };
     let block = &programme.blocks[number];
+    let size = count(length(block), "byte");
     let region = job.names.principal(block.region.into());
     let endorsed = match block.floor {
         Floor::DownTo(floor) => format!("endorsed down to {}", job.names.principal(floor.into())),

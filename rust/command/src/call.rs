@@ -13,6 +13,8 @@ use crate::plain;
 /// The answers that a run in stretches writes something for.
 pub const FINISHED: u32 = 0;
 pub const BUDGET_SPENT: u32 = 17;
+/// The answer to a write that finds no free entry.
+const JOURNAL_FULL: u32 = 18;
 
 /// What is run, and how.
 #[derive(Debug, Clone, Copy)]
@@ -52,6 +54,10 @@ impl Came {
         self.answer.number == BUDGET_SPENT
     }
 
+    pub fn journal_full(&self) -> bool {
+        self.answer.number == JOURNAL_FULL
+    }
+
     /// The writes of a run over this store; none of one that did not finish.
     pub fn writes(&self, store: &[u8]) -> usize {
         let slots = end_store(store, &self.left.out).filter(|_| self.finished());
@@ -68,7 +74,7 @@ impl Came {
 
 impl Call<'_> {
     /// Buffers as long as the call asks for.
-    fn room(&self) -> Paused {
+    pub fn room(&self) -> Paused {
         let pause = match self.way {
             Way::Journalled(_) => 0,
             Way::Stretch(_) => Checkpoint::PAUSE_BYTES,

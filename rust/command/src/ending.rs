@@ -54,7 +54,7 @@ impl Failure {
 }
 
 /// What the system says of an error, without its number there.
-fn system_words(error: &io::Error) -> String {
+pub fn system_words(error: &io::Error) -> String {
     let words = error.to_string();
     match words.find(" (os error ") {
         Some(end) => words[..end].to_string(),

@@ -72,19 +72,38 @@ fn write_to_device(path: &OsStr, bytes: &[u8]) -> io::Result<()> {
     device.flush()
 }
 
+/// Tries whether a regular file, there or not yet, can be [written](write): fills
+/// one beside it, and removes that again.
+pub fn try_to_write(path: &OsStr, bytes: &[u8]) -> io::Result<()> {
+    let file = match fs::metadata(path) {
+        Ok(_) => fs::canonicalize(path)?,
+        Err(_) => PathBuf::from(path),
+    };
+    put_beside(&file, bytes, |beside| fs::remove_file(beside))
+}
+
 fn replace(file: &Path, bytes: &[u8]) -> io::Result<()> {
+    put_beside(file, bytes, |beside| fs::rename(beside, file))
+}
+
+/// Fills a new file beside this one, and does something with it.
+fn put_beside(
+    file: &Path,
+    bytes: &[u8],
+    then: impl FnOnce(&Path) -> io::Result<()>,
+) -> io::Result<()> {
     let beside = beside(file)?;
     let new = OpenOptions::new()
         .write(true)
         .create_new(true)
         .open(&beside)?;
-    let written = fill(new, file, bytes).and_then(|()| fs::rename(&beside, file));
-    if written.is_err() {
+    let done = fill(new, file, bytes).and_then(|()| then(&beside));
+    if done.is_err() {
         // What could not be written whole is not left over. Where that fails as
         // well, the first error is the one to tell.
         let _ = fs::remove_file(&beside);
     }
-    written
+    done
 }
 
 /// Fills a new file, with the permissions of the one that it will replace.
@@ -102,4 +121,40 @@ fn beside(file: &Path) -> io::Result<PathBuf> {
     let mut name = file.file_name().ok_or_else(no_name)?.to_os_string();
     name.push(format!(".{}.new", process::id()));
     Ok(file.with_file_name(name))
+}
+
+/// A file's name as it is typed in a shell.
+pub fn typed(file: &OsStr) -> String {
+    let name = file.to_string_lossy();
+    let plain = |letter: char| letter.is_alphanumeric() || "_./,:@%+-=".contains(letter);
+    let name = match name.starts_with('-') {
+        true => format!("./{name}"),
+        false => name.into_owned(),
+    };
+    match !name.is_empty() && name.chars().all(plain) {
+        true => name,
+        false => format!("'{}'", name.replace('\'', "'\\''")),
+    }
+}
+
+#[cfg(test)]
+mod tests {
+    use super::*;
+
+    #[test]
+    fn names_are_quoted_for_a_shell() {
+        let cases = [
+            ("count.mz", "count.mz"),
+            ("../a_b/c-1,2:3@4%5+6", "../a_b/c-1,2:3@4%5+6"),
+            ("digA=customer.bin", "digA=customer.bin"),
+            ("two words", "'two words'"),
+            ("it's", "'it'\\''s'"),
+            ("$x", "'$x'"),
+            ("-x", "./-x"),
+            ("", "''"),
+        ];
+        for (name, expected) in cases {
+            assert_eq!(typed(OsStr::new(name)), expected);
+        }
+    }
 }

@@ -9,7 +9,7 @@ laboratory's, and refuses what a rule set forbids.
     muntyzhap explain FILE [FILE2]   run, and print only why it was refused
     muntyzhap journal FILE [FILE2]   run, and print who wrote what
     muntyzhap asm FILE -o OUT        make sheets (bytes) of a text
-    muntyzhap dis FILE               list sheets, or make a text of them
+    muntyzhap dis FILE               list sheets, byte by byte, or make a text of them
     muntyzhap help [COMMAND]         say how to use it
     muntyzhap --version
 
@@ -73,7 +73,7 @@ text if it is UTF-8 with no control bytes but tabs and line ends.
     --entries N          keep a journal of N entries; a write that finds it full is
                          refused. If not given there is one for every step
     --plain              print what the printing program `blockrun` prints, which
-                         lends a journal of 512 entries
+                         lends a journal of 512 entries if --entries is not given
     --trace              a line for each step on standard error, with values and
                          labels, by the second runner
     --sheets             take FILE for sheets, whatever it looks like
@@ -84,14 +84,15 @@ In slices:
     --slice N            run N steps at a time, with a line on standard error after
                          each. Ctrl-C (SIGINT, SIGTERM) pauses after the slice and
                          writes a checkpoint; a second one ends at once. A spent
-                         budget writes one too
-    --checkpoint FILE    where to write it; if not given, FILE.checkpoint, or the
-                         checkpoint that the run was resumed from
+                         budget pauses too, with any of these three options
+    --checkpoint FILE    where to write it, over a checkpoint that is there; if not
+                         given, back to the checkpoint that the run was resumed
+                         from, or to FILE.checkpoint if no checkpoint is there
     --resume FILE        carry on from a checkpoint. Without another file its own
                          sheets are run, without names; with files, their sheets
-                         have to be the same. Rule and budget are the
-                         checkpoint's where they are not given; the budget
-                         includes the steps so far
+                         have to be the same, so give the same --block too. Rule
+                         and budget are the checkpoint's where they are not given;
+                         the budget includes the steps so far
 
 Exit status: 0 finished; 1 refused or paused, or errors in a text; 2 wrong use, or
 a file or stream that failed, or two runners that differ.
@@ -104,7 +105,8 @@ muntyzhap explain FILE [FILE2] [options]
 Runs as `muntyzhap run` does, and prints only why the run was refused: which
 sheet, block, line and command, and what was judged with where it came from. Of a
 run that finishes it says so in a line. The second runner runs too, and has to
-come to the same answer, output and journal as the library.
+come to the same answer, output and journal as the library. No checkpoint is
+written.
 
     --rule RULE  --budget N  --block NAME=FILE  --entries N  --trace  --resume FILE
     --sheets  --text-input      as `muntyzhap help run` says
@@ -133,7 +135,7 @@ stream that failed, or two runners that differ.
 
 /// `muntyzhap help asm`.
 pub const ASM: &str = "\
-muntyzhap asm FILE [-o OUT] [--only store|programme]
+muntyzhap asm FILE [-o OUT] [--only store|programme|code]
 
 Makes sheets of a text: the store sheet and then the programme sheet, of those
 that the text has. `-` is standard input. All errors of the text are told at once,
@@ -143,6 +145,14 @@ each with its line and column.
                          not given, to standard output, unless that is a terminal
     --only store         the store sheet alone
     --only programme     the programme sheet alone
+    --only code          the code of the text's one block, as a customer sends it and
+                         `--block NAME=FILE` takes it
+
+A customer's text has the store's names in `principals` lines and `slot` lines,
+without values if it likes; or it has none of these lines, and calls principals p0,
+p1, .. and slots s0, s1, .. by their numbers:
+
+    block p1 { s0 := s0 + 1 }
 
 docs/NOTATION.md has the grammar. `muntyzhap help` has an example.
 
@@ -152,25 +162,30 @@ failed.
 
 /// `muntyzhap help dis`.
 pub const DIS: &str = "\
-muntyzhap dis FILE [--text] [--sheets]
-muntyzhap dis FILE --store STORE [--text]
+muntyzhap dis FILE [--block NAME=CODE] [--text] [--sheets]
+muntyzhap dis FILE --store STORE [--block NAME=CODE] [--text]
 muntyzhap dis FILE --programme-only [--principals N] [--slots M] [--text]
 
 Lists sheets: the offset in the file, the offset in the block, the bytes, and what
 they say. Damaged sheets are listed as far as they go, with the refusal marked at
-its byte. `-` is standard input.
+its byte. Of a text the sheets that `muntyzhap asm` makes are listed, with the
+text's names. `-` is standard input.
 
     --text               print the text of good sheets instead, which
                          `muntyzhap asm` takes. Sheets have no names: principals
                          are p0, p1, .. and slots s0, s1, ..
-    --store STORE        FILE is a programme sheet alone, for the store in STORE, text
+    --block NAME=CODE    put code in first, as `muntyzhap run` does, to look at a
+                         customer's code before it runs. May be given again
+    --store STORE        FILE is a programme alone, for the store in STORE, text
                          or sheet; a text gives its names
     --programme-only     FILE is a programme sheet alone, for a store of N principals
-                         and M slots; 32 and 256 if not given
-    --sheets             list FILE though it looks like text
+                         and M slots; 32 and 256 if not given. Of a text, its
+                         programme alone
+    --sheets             take FILE for sheets, whatever it looks like
+    --text-input         take FILE for text, whatever it looks like
 
-Exit status: 0 done; 1 a damaged sheet; 2 wrong use, or a file or stream that
-failed.
+Exit status: 0 done; 1 a damaged sheet, or errors in a text; 2 wrong use, or a file
+or stream that failed.
 ";
 
 /// `muntyzhap help help`.

@@ -8,8 +8,9 @@ use std::sync::atomic::{AtomicBool, Ordering};
 /// The signals, by the numbers that every Unix gives them.
 const SIGINT: i32 = 2;
 const SIGTERM: i32 = 15;
-/// What a signal does where no handler is set.
+/// What a signal does where no handler is set, and that it is ignored.
 const DEFAULT: usize = 0;
+const IGNORED: usize = 1;
 
 static ASKED: AtomicBool = AtomicBool::new(false);
 
@@ -33,10 +34,17 @@ extern "C" fn note(_: i32) {
     set(DEFAULT);
 }
 
+/// A signal that was ignored stays so: whoever started the process said it.
+///
 /// Sound: a handler is `note`, which has the type that the system calls and does
-/// only what a handler may, an atomic store and calls of `signal`; or the default.
+/// only what a handler may, an atomic store and calls of `signal`; or one of the
+/// system's own.
 fn set(handler: usize) {
     for number in [SIGINT, SIGTERM] {
-        unsafe { signal(number, handler) };
+        unsafe {
+            if signal(number, handler) == IGNORED {
+                signal(number, IGNORED);
+            }
+        }
     }
 }

@@ -12,6 +12,7 @@ use crate::blocks;
 use crate::checkpoint::{Kept, SheetStarts};
 use crate::ending::Failure;
 use crate::files;
+use crate::hints;
 use crate::input::{assembled, Content, Input, Taken};
 use crate::options::{split, Given};
 use crate::sources::{Bytes, Sources};
@@ -23,6 +24,8 @@ pub struct Job {
     pub programme: Vec<u8>,
     pub names: Names,
     pub sources: Sources,
+    /// What may have been meant, where the store sheet is refused.
+    pub hint: Option<String>,
 }
 
 /// A file by its name, and what it says.
@@ -46,16 +49,21 @@ impl Job {
             parts.push(part(file, taken, streams)?);
         }
         let mut parts = parts.into_iter();
-        let with_blocks = given.has("--block");
         let mut job = match (parts.next(), parts.next()) {
-            (Some(both), None) => Job::of_one(both, with_blocks)?,
+            (Some(both), None) => Job::of_one(both, given)?,
             (Some(one), Some(other)) => Job::of_two(one, other)?,
             _ => return Err(given.wrong("which file?")),
         };
-        for note in blocks::put_in(&mut job, given)? {
-            streams.note(&note)?;
-        }
+        job.put_in(given, streams)?;
         Ok(job)
+    }
+
+    /// Puts in the blocks that are asked for, and notes where they went.
+    pub fn put_in(&mut self, given: &Given, streams: &mut Streams) -> Result<(), Failure> {
+        for note in blocks::put_in(self, given)? {
+            streams.note(&note);
+        }
+        Ok(())
     }
 
     /// The sheets that a checkpoint file has; there are no names.
@@ -69,22 +77,12 @@ impl Job {
 
     /// One file that has a store and a programme. Where blocks are put in, it may
     /// do without a programme.
-    fn of_one(part: Part, with_blocks: bool) -> Result<Job, Failure> {
+    fn of_one(part: Part, given: &Given) -> Result<Job, Failure> {
         let Part { name, what } = part;
+        let with_blocks = given.has("--block");
         let mut job = Job::default();
         match what {
-            What::Sheets(bytes) => {
-                let (store, programme) = inspect::split(&bytes);
-                job.take_store_sheet(Bytes::new(&name, 0), store.to_vec());
-                let source = Bytes::new(&name, store.len());
-                let none = with_blocks && programme.is_empty();
-                let programme = if none {
-                    no_blocks()?
-                } else {
-                    programme.to_vec()
-                };
-                job.take_programme_sheet(source, programme);
-            }
+            What::Sheets(bytes) => job.take_sheets(&name, &bytes, given)?,
             What::Text(mut text) => {
                 if text.programme.is_none() && with_blocks {
                     text.programme = Some(no_blocks()?);
@@ -97,13 +95,34 @@ impl Job {
                 job.take_text(&name, *text);
             }
         }
+        job.sources.files = vec![name];
         Ok(job)
+    }
+
+    /// Both sheets of one file. The printing program takes a store alone for one with
+    /// a programme that is too short, so that is left to it.
+    fn take_sheets(&mut self, name: &str, bytes: &[u8], given: &Given) -> Result<(), Failure> {
+        let (store, programme) = inspect::split(bytes);
+        let is_alone = programme.is_empty() && inspect::store_model(store).is_some();
+        let programme = match is_alone {
+            true if given.has("--block") => no_blocks()?,
+            true if !given.has("--plain") => return Err(ends_after_store(name)),
+            _ => programme.to_vec(),
+        };
+        self.hint = hints::printing_input(name, bytes);
+        self.take_store_sheet(Bytes::new(name, 0), store.to_vec());
+        self.take_programme_sheet(Bytes::new(name, store.len()), programme);
+        Ok(())
     }
 
     /// A store and a programme in two files.
     fn of_two(one: Part, other: Part) -> Result<Job, Failure> {
         let (store, programme) = in_order(one, other)?;
         let mut job = Job::default();
+        if let (What::Sheets(one), What::Sheets(other)) = (&store.what, &programme.what) {
+            job.hint = hints::swapped((&store.name, one), (&programme.name, other));
+        }
+        job.sources.files = vec![programme.name.clone(), store.name.clone()];
         match store.what {
             What::Sheets(bytes) => job.take_store_sheet(Bytes::new(&store.name, 0), bytes),
             What::Text(text) => job.take_text(&store.name, *text),
@@ -186,7 +205,7 @@ impl Job {
 fn part(file: &OsStr, taken: Taken, streams: &mut Streams) -> Result<Part, Failure> {
     let input = Input::read(file, taken)?;
     if let Some(doubt) = &input.doubt {
-        streams.note(doubt)?;
+        streams.note(doubt);
     }
     let name = input.name;
     let what = match input.content {
@@ -197,7 +216,7 @@ fn part(file: &OsStr, taken: Taken, streams: &mut Streams) -> Result<Part, Failu
 }
 
 /// A programme sheet with no block.
-fn no_blocks() -> Result<Vec<u8>, Failure> {
+pub fn no_blocks() -> Result<Vec<u8>, Failure> {
     let sheet = notation::programme_bytes(&model::Programme::default());
     sheet.map_err(|error| Failure::told(error.to_string()))
 }
@@ -242,6 +261,12 @@ fn both(one: &Part, other: &Part, have: &str, lack: &str) -> Failure {
     ))
 }
 
+fn ends_after_store(name: &str) -> Failure {
+    Failure::told(format!(
+        "{name} ends after its store sheet, and has no programme: give the file with the programme too"
+    ))
+}
+
 fn lacks(name: &str, what: &str, has: &str) -> Failure {
     Failure::told(format!(
         "{name} has no {what}, only a {has}: give the file with the {what} too"
@@ -249,10 +274,12 @@ fn lacks(name: &str, what: &str, has: &str) -> Failure {
 }
 
 /// Standard input can be read once.
-fn once(given: &Given) -> Result<(), Failure> {
+pub fn once(given: &Given) -> Result<(), Failure> {
     let files = given.files.iter().map(OsString::as_os_str);
     let blocks = given.values("--block").filter_map(|block| split(block).1);
-    let all = files.chain(blocks).chain(given.value("--resume"));
+    let others = ["--resume", "--store"].into_iter();
+    let others = others.filter_map(|name| given.value(name));
+    let all = files.chain(blocks).chain(others);
     match all.filter(|file| *file == files::STANDARD_INPUT).count() {
         0 | 1 => Ok(()),
         _ => Err(given.wrong("standard input can be read once")),

@@ -55,7 +55,7 @@ pub fn run(given: &Given, streams: &mut Streams) -> Ended {
     let call = setup.call();
     let came = played(&setup.job, &call, settings.trace, streams)?;
     if !came.finished() {
-        return answer(&setup.job, &call, &came, streams);
+        return answer(&setup, &call, &came, streams);
     }
     let entries: Option<Vec<Entry>> = came.journal.iter().map(Entry::from_raw).collect();
     let ill_formed = || Failure::told("the library left an ill-formed journal");

@@ -13,6 +13,13 @@ use crate::call::Came;
 /// The entries of the journal that the printing program lends.
 pub const LENT_ENTRIES: usize = 512;
 
+/// What is said where they are not enough.
+pub fn lent() -> String {
+    format!(
+        "the journal is full: the printing program lends {LENT_ENTRIES} entries; --entries N lends more"
+    )
+}
+
 /// The first line.
 pub fn answer(answer: &Answer) -> String {
     let Answer {

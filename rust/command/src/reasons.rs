@@ -113,6 +113,7 @@ fn by_option(number: u32) -> &'static str {
 fn store_reason(job: &Job, came: &Came) -> Result<Vec<String>, Failure> {
     let (source, refused) = (job.sources.store.as_ref(), job.store_read().refused);
     let mut lines = sheet_reason("store", source, refused, came)?;
+    lines.extend(job.hint.clone());
     lines.extend(job.sources.store_listed().map(listed));
     Ok(lines)
 }

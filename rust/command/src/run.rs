@@ -4,6 +4,7 @@ use model::count;
 use muntyzhap::sheet::end_store;
 
 use crate::call::{held, Call, Came, Way};
+use crate::carried;
 use crate::ending::{Ended, Failure, Status};
 use crate::job::Job;
 use crate::options::Given;
@@ -23,11 +24,11 @@ pub fn run(given: &Given, streams: &mut Streams) -> Ended {
         return print_plain(&mut setup, &settings, streams);
     }
     if settings.in_stretches() {
-        return slices::run(&setup, &settings, streams);
+        return slices::run(given, &setup, &settings, streams);
     }
     let call = setup.call();
     let came = played(&setup.job, &call, settings.trace, streams)?;
-    answer(&setup.job, &call, &came, streams)
+    answer(&setup, &call, &came, streams)
 }
 
 /// Runs, and prints why it was refused, or in a line that it was not. The second
@@ -38,7 +39,7 @@ pub fn explain(given: &Given, streams: &mut Streams) -> Ended {
     let call = setup.call();
     let came = played(&setup.job, &call, settings.trace, streams)?;
     if !came.finished() {
-        return answer(&setup.job, &call, &came, streams);
+        return answer(&setup, &call, &came, streams);
     }
     let (second, _) = call.by_second(&mut |_| ());
     held(&came, &second)?;
@@ -53,27 +54,34 @@ pub fn played(job: &Job, call: &Call, trace: bool, streams: &mut Streams) -> Res
         return Ok(came);
     }
     let known = Known::of(job, call.rule);
-    let mut failed = None;
     let (second, _) = call.by_second(&mut |step| {
-        if failed.is_none() {
-            failed = streams.trace(&known.step(step)).err();
+        if streams.notes() {
+            streams.trace(&known.step(step));
         }
     });
-    failed.map_or(Ok(()), Err)?;
     held(&came, &second)?;
     Ok(came)
 }
 
 /// Prints what a run came to.
-pub fn answer(job: &Job, call: &Call, came: &Came, streams: &mut Streams) -> Ended {
+pub fn answer(setup: &Setup, call: &Call, came: &Came, streams: &mut Streams) -> Ended {
     if came.finished() {
-        streams.say(&finished(job, came))?;
+        streams.say(&finished(&setup.job, came))?;
         return Ok(Status::Done);
     }
+    streams.say(&refused(setup, call, came)?)?;
+    Ok(Status::Refused)
+}
+
+/// Why a run was refused, in lines.
+pub fn refused(setup: &Setup, call: &Call, came: &Came) -> Result<String, Failure> {
     let (second, told) = call.by_second(&mut |_| ());
     held(came, &second)?;
-    streams.say(&reasons::refusal(job, call, came, &told)?)?;
-    Ok(Status::Refused)
+    let text = reasons::refusal(&setup.job, call, came, &told)?;
+    Ok(match &setup.resumed {
+        Some(resumed) => carried::with_file(&text, resumed, call, came.answer.number),
+        None => text,
+    })
 }
 
 /// What the printing program prints. It is given both sheets in one, and splits
@@ -90,6 +98,9 @@ fn print_plain(setup: &mut Setup, settings: &Settings, streams: &mut Streams) ->
     };
     let came = played(&setup.job, &call, settings.trace, streams)?;
     streams.say(&plain::printed(&setup.job.store, &came))?;
+    if came.journal_full() && settings.entries.is_none() {
+        streams.note(&plain::lent());
+    }
     Ok(match came.finished() {
         true => Status::Done,
         false => Status::Refused,

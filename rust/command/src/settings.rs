@@ -39,13 +39,13 @@ impl Settings {
     pub fn of(given: &Given) -> Result<Settings, Failure> {
         go_together(given)?;
         let path = |name| given.value(name).map(OsString::from);
-        let slice = given.number("--slice")?;
+        let slice = steps(given, "--slice", 1)?;
         if slice == Some(0) {
             return Err(given.wrong("--slice: a slice has at least 1 step"));
         }
         Ok(Settings {
             rule: rule(given)?,
-            budget: given.number("--budget")?,
+            budget: steps(given, "--budget", 0)?,
             entries: given.number("--entries")?.map(|entries| entries as usize),
             plain: given.has("--plain"),
             trace: given.has("--trace"),
@@ -55,14 +55,10 @@ impl Settings {
         })
     }
 
-    /// Whether the run can be paused, and then has no journal.
+    /// Whether the run can be paused, and then has no journal. A spent budget
+    /// leaves a checkpoint.
     pub fn in_stretches(&self) -> bool {
         self.slice.is_some() || self.checkpoint.is_some() || self.resume.is_some()
-    }
-
-    /// Whether a spent budget, or a pause, leaves a checkpoint.
-    pub fn keeps(&self) -> bool {
-        self.slice.is_some() || self.checkpoint.is_some()
     }
 
     /// The rule, where no checkpoint has one.
@@ -84,6 +80,17 @@ fn go_together(given: &Given) -> Result<(), Failure> {
         given.not_both("--plain", stretched, why)?;
     }
     Ok(())
+}
+
+/// A number of steps. One above the most of a run is taken too: the library judges
+/// it (11).
+fn steps(given: &Given, name: &str, least: u32) -> Result<Option<u32>, Failure> {
+    given.number(name).map_err(|_| {
+        let value = given.value(name).unwrap_or_default().to_string_lossy();
+        given.wrong(format!(
+            "{name}: {value} is no number from {least} to {MOST_BUDGET}"
+        ))
+    })
 }
 
 /// A rule by its name or by a number, whatever that is: the library judges it.

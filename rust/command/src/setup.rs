@@ -1,8 +1,7 @@
 //! What a run starts with: its sheets, its rule and budget, and where it is
 //! carried on from.
 
-use std::ffi::{OsStr, OsString};
-use std::fs;
+use std::ffi::OsStr;
 
 use crate::call::{Call, Way};
 use crate::checkpoint::{Kept, Paused};
@@ -19,10 +18,17 @@ pub struct Setup {
     pub budget: u32,
     /// None at the opening.
     pub from: Option<Paused>,
+    /// The checkpoint file that it comes from, by its name.
+    pub resumed: Option<Resumed>,
     /// The journal's entries, if one is kept.
     pub entries: Option<usize>,
-    /// Where a checkpoint is written.
-    pub checkpoint: OsString,
+}
+
+/// A checkpoint file, and what of the call is its own.
+pub struct Resumed {
+    pub file: String,
+    pub gives_rule: bool,
+    pub gives_budget: bool,
 }
 
 impl Setup {
@@ -30,10 +36,6 @@ impl Setup {
         let files = given.files.len();
         if files > 2 {
             return Err(given.wrong("at most two files are run, a store and a programme"));
-        }
-        let checkpoint = checkpoint_file(given, settings);
-        if settings.keeps() {
-            spare(&checkpoint)?;
         }
         let Some(resume) = &settings.resume else {
             if files == 0 {
@@ -44,19 +46,23 @@ impl Setup {
                 rule: settings.rule(),
                 budget: settings.budget(),
                 from: None,
+                resumed: None,
                 entries: settings.entries,
-                checkpoint,
             });
         };
         let (job, kept) = resumed(given, resume, streams)?;
-        note_changes(settings, &kept, streams)?;
+        note_changes(settings, &kept, streams);
         Ok(Setup {
             job,
             rule: settings.rule.unwrap_or(kept.rule),
             budget: settings.budget.unwrap_or(kept.budget),
             from: Some(kept.paused),
+            resumed: Some(Resumed {
+                file: files::name(resume),
+                gives_rule: settings.rule.is_none(),
+                gives_budget: settings.budget.is_none(),
+            }),
             entries: None,
-            checkpoint,
         })
     }
 
@@ -85,30 +91,6 @@ impl Setup {
     }
 }
 
-/// The one that is given; else the first file's name with an ending added, or the
-/// checkpoint that the run is resumed from.
-fn checkpoint_file(given: &Given, settings: &Settings) -> OsString {
-    let ending = OsStr::new(".checkpoint");
-    let usual = || match (given.files.first(), &settings.resume) {
-        (Some(file), _) if file != files::STANDARD_INPUT => [file, ending].into_iter().collect(),
-        (None, Some(resume)) if resume != files::STANDARD_INPUT => resume.clone(),
-        _ => [OsStr::new("muntyzhap"), ending].into_iter().collect(),
-    };
-    settings.checkpoint.clone().unwrap_or_else(usual)
-}
-
-/// A checkpoint takes the place of another, and of no other file.
-fn spare(checkpoint: &OsStr) -> Result<(), Failure> {
-    let there = fs::metadata(checkpoint).is_ok_and(|found| found.is_file());
-    if !there || Kept::may_be(&files::read(checkpoint)?) {
-        return Ok(());
-    }
-    Err(Failure::told(format!(
-        "{} is there and is no checkpoint: give another file with --checkpoint",
-        files::name(checkpoint)
-    )))
-}
-
 /// The sheets and the checkpoint of a run that is carried on.
 fn resumed(given: &Given, resume: &OsStr, streams: &mut Streams) -> Result<(Job, Kept), Failure> {
     let name = files::name(resume);
@@ -131,7 +113,8 @@ fn same_sheets(job: &Job, kept: &Kept, name: &str) -> Result<(), Failure> {
     let differs = match (store, programme) {
         (true, true) => return Ok(()),
         (false, true) => "the store differs",
-        (true, false) => "the programme differs",
+        // Nothing in the checkpoint says whether blocks were put in.
+        (true, false) => "the programme differs (give the same --block)",
         (false, false) => "store and programme differ",
     };
     Err(Failure::told(format!(
@@ -139,18 +122,17 @@ fn same_sheets(job: &Job, kept: &Kept, name: &str) -> Result<(), Failure> {
     )))
 }
 
-fn note_changes(settings: &Settings, kept: &Kept, streams: &mut Streams) -> Result<(), Failure> {
+fn note_changes(settings: &Settings, kept: &Kept, streams: &mut Streams) {
     if let Some(rule) = settings.rule.filter(|rule| *rule != kept.rule) {
         let (new, old) = (rule_name(rule), rule_name(kept.rule));
         streams.note(&format!(
             "carried on under rule {new}; it was {old} until the pause"
-        ))?;
+        ));
     }
     if let Some(budget) = settings.budget.filter(|budget| *budget != kept.budget) {
         let old = kept.budget;
         streams.note(&format!(
             "carried on with budget {budget}; it was {old} until the pause"
-        ))?;
+        ));
     }
-    Ok(())
 }

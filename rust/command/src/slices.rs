@@ -1,5 +1,7 @@
 //! Runs in slices, with checkpoints.
 
+use std::ffi::OsString;
+
 use muntyzhap::MOST_BUDGET;
 
 use crate::call::{Call, Came, Way};
@@ -7,14 +9,22 @@ use crate::checkpoint::Paused;
 use crate::ending::{Ended, Failure, Status};
 use crate::files;
 use crate::interrupt;
+use crate::options::Given;
+use crate::place::{self, carry_on};
 use crate::reasons::Known;
-use crate::run::{answer, played};
+use crate::run::{answer, played, refused};
 use crate::settings::Settings;
 use crate::setup::Setup;
 use crate::streams::Streams;
 
 /// Runs a slice at a time up to the budget, or in one go if there are no slices.
-pub fn run(setup: &Setup, settings: &Settings, streams: &mut Streams) -> Ended {
+pub fn run(given: &Given, setup: &Setup, settings: &Settings, streams: &mut Streams) -> Ended {
+    let opening = setup.kept(&setup.call().room()).to_bytes();
+    let pausable = Pausable {
+        given,
+        setup,
+        place: place::find(given, settings, &opening)?,
+    };
     if settings.slice.is_some() {
         interrupt::watch();
     }
@@ -30,12 +40,12 @@ pub fn run(setup: &Setup, settings: &Settings, streams: &mut Streams) -> Ended {
         };
         let came = played(&setup.job, &call, settings.trace, streams)?;
         if !came.spent() || budget >= setup.budget {
-            return end(setup, settings, budget, &came, streams);
+            return pausable.end(budget, &came, streams);
         }
         let (steps, block) = (came.answer.steps, known.block(came.answer.block));
-        streams.note(&format!("{steps} of {} steps, {block}", setup.budget))?;
+        streams.note(&format!("{steps} of {} steps, {block}", setup.budget));
         if interrupt::asked() {
-            return pause(setup, &came, streams);
+            return pausable.pause(&came, streams);
         }
         last = Some(came.left);
     }
@@ -50,48 +60,78 @@ fn next_budget(budget: u32, steps: u32, slice: Option<u32>) -> u32 {
     }
 }
 
-/// The last slice: however many there were, what it came to is what the run comes
-/// to in one go, and is told so.
-fn end(
-    setup: &Setup,
-    settings: &Settings,
-    budget: u32,
-    came: &Came,
-    streams: &mut Streams,
-) -> Ended {
-    let whole = Call {
-        budget,
-        ..setup.call()
-    };
-    let file = (came.spent() && settings.keeps())
-        .then(|| keep(setup, came))
-        .transpose()?;
-    let status = answer(&setup.job, &whole, came, streams)?;
-    let steps = came.answer.steps;
-    if let Some(file) = file {
+/// A run that can be paused, and where it is kept.
+struct Pausable<'a> {
+    given: &'a Given,
+    setup: &'a Setup,
+    place: OsString,
+}
+
+impl Pausable<'_> {
+    /// The last slice: however many there were, what it came to is what the run
+    /// comes to in one go, and is told so.
+    fn end(&self, budget: u32, came: &Came, streams: &mut Streams) -> Ended {
+        let setup = self.setup;
+        let whole = Call {
+            budget,
+            ..setup.call()
+        };
+        if !came.spent() {
+            return answer(setup, &whole, came, streams);
+        }
+        // What is kept is safe before anything else can fail.
+        let kept = self.keep(came);
+        let text = refused(setup, &whole, came)?;
+        streams.say(&if kept.is_ok() { paused(&text) } else { text })?;
+        kept?;
+        let steps = came.answer.steps;
         streams.say(&match steps < MOST_BUDGET {
             true => format!(
-                "paused after {steps} steps: carry on with --resume {file} --budget N, where N is above {steps}\n"
+                "paused after {steps} steps: carry on with: {}\n",
+                carry_on(self.given, &self.place, Some(steps))
             ),
-            false => format!("paused after {steps} steps, the most that a run has; it is kept in {file}\n"),
+            false => format!(
+                "paused after {steps} steps, the most that a run has; it is kept in {}\n",
+                self.place.to_string_lossy()
+            ),
         })?;
+        Ok(Status::Refused)
     }
-    Ok(status)
+
+    /// A pause that was asked for.
+    fn pause(&self, came: &Came, streams: &mut Streams) -> Ended {
+        let (kept, steps) = (self.keep(came), came.answer.steps);
+        let then = match kept {
+            Ok(()) => format!("carry on with: {}", carry_on(self.given, &self.place, None)),
+            Err(_) => "it is not kept".to_string(),
+        };
+        streams.say(&format!("paused after {steps} steps: {then}\n"))?;
+        kept?;
+        Ok(Status::Refused)
+    }
+
+    /// Writes the checkpoint.
+    fn keep(&self, came: &Came) -> Result<(), Failure> {
+        let bytes = self.setup.kept(&came.left).to_bytes();
+        files::write(&self.place, &bytes).map_err(|failure| match failure {
+            Failure::Told(words) => {
+                Failure::told(format!("the checkpoint could not be written: {words}"))
+            }
+            other => other,
+        })
+    }
 }
 
-fn pause(setup: &Setup, came: &Came, streams: &mut Streams) -> Ended {
-    let file = keep(setup, came)?;
-    let steps = came.answer.steps;
-    streams.say(&format!(
-        "paused after {steps} steps: carry on with --resume {file}\n"
-    ))?;
-    Ok(Status::Refused)
-}
-
-/// Writes the checkpoint, and gives its file's name.
-fn keep(setup: &Setup, came: &Came) -> Result<String, Failure> {
-    files::write(&setup.checkpoint, &setup.kept(&came.left).to_bytes())?;
-    Ok(setup.checkpoint.to_string_lossy().into_owned())
+/// The text of a spent budget, where a checkpoint was written: what to do then is
+/// to carry on, which is said after it.
+fn paused(text: &str) -> String {
+    let text = match text.strip_prefix("refused by ") {
+        Some(rest) => format!("paused by {rest}"),
+        None => text.to_string(),
+    };
+    let advice = |line: &&str| line.starts_with("  What to do: ") && line.contains("in slices and");
+    let lines = text.lines().filter(|line| !advice(line));
+    lines.map(|line| format!("{line}\n")).collect()
 }
 
 #[cfg(test)]

@@ -1,9 +1,15 @@
 //! Where the sheets of a run came from, and how a place in them is told.
 
+use std::ffi::OsStr;
+
 use notation::Places;
 
 use crate::blocks;
 use crate::files;
+
+fn typed(file: &str) -> String {
+    files::typed(OsStr::new(file))
+}
 
 /// A file, and at which of its bytes a sheet or a block's code starts.
 #[derive(Debug, Clone, PartialEq, Eq)]
@@ -38,6 +44,11 @@ pub struct Sources {
     pub store: Option<Bytes>,
     /// The programme sheet likewise; none too if blocks were put into it.
     pub programme: Option<Bytes>,
+    /// The files of the run: the one with both sheets, or the programme's and the
+    /// store's.
+    pub files: Vec<String>,
+    /// What was put in, as `NAME=FILE`.
+    put_in: Vec<String>,
     text: Option<(String, Places)>,
     blocks: Vec<Code>,
 }
@@ -57,8 +68,9 @@ impl Sources {
         self.programme = Some(source);
     }
 
-    /// The code of this block, or of a new last one, is a file's.
-    pub fn block(&mut self, block: usize, file: &str) {
+    /// The code of this block, or of a new last one, is a file's, put in by a name.
+    pub fn block(&mut self, block: usize, name: &str, file: &str) {
+        self.put_in.push(format!("{name}={file}"));
         let code = Code::Bytes(Bytes::new(file, 0));
         match self.blocks.get_mut(block) {
             Some(source) => *source = code,
@@ -67,20 +79,39 @@ impl Sources {
         self.programme = None;
     }
 
+    pub fn has_put_in(&self) -> bool {
+        !self.put_in.is_empty()
+    }
+
     /// With which arguments `muntyzhap dis` lists the store sheet. It cannot list
     /// what is inside a checkpoint file.
     pub fn store_listed(&self) -> Option<String> {
         let store = self.store.as_ref().filter(|store| store.at == 0)?;
-        (store.file != files::STANDARD_INPUT_NAME).then(|| store.file.clone())
+        (store.file != files::STANDARD_INPUT_NAME).then(|| typed(&store.file))
     }
 
-    /// With which it lists the programme sheet, alone or after the store sheet.
+    /// With which it lists the programme sheet, after the store sheet or beside it, and
+    /// with the blocks that were put in.
     pub fn programme_listed(&self) -> Option<String> {
-        let Bytes { file, at } = self.programme.as_ref()?;
-        match at {
-            0 if file != files::STANDARD_INPUT_NAME => Some(format!("{file} --programme-only")),
-            _ => self.store_listed().filter(|store| store == file),
+        if self.has_put_in() || self.files.len() > 1 {
+            return self.listed_beside();
         }
+        let file = &self.programme.as_ref()?.file;
+        self.store_listed().filter(|store| *store == typed(file))
+    }
+
+    /// None where one of the files was standard input, which is read.
+    fn listed_beside(&self) -> Option<String> {
+        let mut arguments = match &self.files[..] {
+            [both] => typed(both),
+            [programme, store] => format!("{} --store {}", typed(programme), typed(store)),
+            _ => return None,
+        };
+        for put_in in &self.put_in {
+            arguments += &format!(" --block {}", typed(put_in));
+        }
+        let is_read = arguments.contains(files::STANDARD_INPUT_NAME);
+        (!is_read).then_some(arguments)
     }
 
     /// The place of a command, or of a byte of its code: such as `deputy.mz:6:14`

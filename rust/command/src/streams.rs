@@ -8,6 +8,8 @@ use crate::ending::Failure;
 pub struct Streams {
     out: BufWriter<Stdout>,
     error: BufWriter<Stderr>,
+    /// Why nothing more is written to standard error.
+    lost: Option<Failure>,
 }
 
 const OUT: &str = "standard output";
@@ -18,6 +20,7 @@ impl Streams {
         Streams {
             out: BufWriter::new(io::stdout()),
             error: BufWriter::new(io::stderr()),
+            lost: None,
         }
     }
 
@@ -31,21 +34,35 @@ impl Streams {
         told(self.out.write_all(bytes), OUT)
     }
 
-    /// Writes a line to standard error, at once.
-    pub fn note(&mut self, line: &str) -> Result<(), Failure> {
-        self.trace(line)?;
-        told(self.error.flush(), ERROR)
+    /// Writes a line to standard error, at once. Where that fails nothing more is
+    /// written there, and the command goes on: such a line is no reason to lose a
+    /// run. [The last flush](Streams::flush) tells it.
+    pub fn note(&mut self, line: &str) {
+        self.trace(line);
+        self.on_error(|error| error.flush());
     }
 
-    /// Writes a line to standard error, some time before the end.
-    pub fn trace(&mut self, line: &str) -> Result<(), Failure> {
-        told(writeln!(self.error, "{line}"), ERROR)
+    /// The same, some time before the end.
+    pub fn trace(&mut self, line: &str) {
+        self.on_error(|error| writeln!(error, "{line}"));
     }
 
-    /// Writes all that waits.
+    /// Whether what is noted or traced is still written.
+    pub fn notes(&self) -> bool {
+        self.lost.is_none()
+    }
+
+    fn on_error(&mut self, write: impl FnOnce(&mut BufWriter<Stderr>) -> io::Result<()>) {
+        if self.notes() {
+            self.lost = told(write(&mut self.error), ERROR).err();
+        }
+    }
+
+    /// Writes all that waits, to each stream whatever became of the other.
     pub fn flush(&mut self) -> Result<(), Failure> {
-        told(self.error.flush(), ERROR)?;
-        told(self.out.flush(), OUT)
+        self.on_error(|error| error.flush());
+        told(self.out.flush(), OUT)?;
+        self.lost.clone().map_or(Ok(()), Err)
     }
 
     /// Writes why a command failed, where anybody reads it.

@@ -8,18 +8,17 @@ use crate::scene::Scene;
 
 /// 17
 pub fn budget_spent(scene: &Scene, stopped: &Stopped, budget: u32) -> Vec<String> {
-    let done = count(stopped.steps as usize, "step");
-    let are = if stopped.steps == 1 { "is" } else { "are" };
-    let budget_words = count(budget as usize, "step");
-    let mut lines = vec![format!(
-        "  The budget is {budget_words}; {done} {are} done, and this command needs one more."
-    )];
+    let mut lines = vec![spent(stopped.steps, budget)];
     if in_while(scene, stopped) {
         lines.push("  It is in a while: if that never ends, no budget is enough.".to_string());
     }
-    lines.push(match budget < MOST_BUDGET {
+    let larger = match stopped.steps > budget {
+        true => format!("budget above {}", stopped.steps),
+        false => "larger budget".to_string(),
+    };
+    lines.push(match budget.max(stopped.steps) < MOST_BUDGET {
         true => format!(
-            "  What to do: give a larger budget, up to {MOST_BUDGET} steps, or run in slices and carry on from the checkpoint."
+            "  What to do: give a {larger}, up to {MOST_BUDGET} steps, or run in slices and carry on from the checkpoint."
         ),
         false => format!(
             "  What to do: no run does more than {MOST_BUDGET} steps, in slices or not: let the blocks do less, or split \
@@ -27,6 +26,21 @@ pub fn budget_spent(scene: &Scene, stopped: &Stopped, budget: u32) -> Vec<String
         ),
     });
     lines
+}
+
+/// A run that is carried on may have done more steps than its new budget has.
+fn spent(steps: u32, budget: u32) -> String {
+    let done = count(steps as usize, "step");
+    let are = if steps == 1 { "is" } else { "are" };
+    let budget_words = count(budget as usize, "step");
+    match steps > budget {
+        true => format!(
+            "  The budget is {budget_words}, and {done} {are} done already: a budget includes the steps so far."
+        ),
+        false => format!(
+            "  The budget is {budget_words}; {done} {are} done, and this command needs one more."
+        ),
+    }
 }
 
 /// Whether a while is open around the command, or is the command itself.

@@ -1,5 +1,6 @@
 //! 16: labels that stand too low.
 
+mod advice;
 mod guards;
 
 use second_runner::{Seen, Stopped};
@@ -51,15 +52,14 @@ struct Bar {
 
 impl TooLow<'_> {
     pub fn lines(&self) -> Vec<String> {
-        let (scene, owner) = (self.scene, self.scene.principal(self.owner));
+        let (scene, owner) = (self.scene, self.scene.called(self.owner));
         let mut lines = vec![format!(
             "  It would write {}, which {owner} owns. {}",
             scene.slot(self.slot),
             self.needs()
         )];
         lines.extend(Labelled::ALL.into_iter().flat_map(|one| self.judged(one)));
-        lines.push(format!("  What to do: {}.", self.mends()));
-        lines.push(self.endorse());
+        lines.extend(self.advice());
         lines
     }
 
@@ -75,7 +75,7 @@ impl TooLow<'_> {
     /// by itself comes to the same.
     fn needs(&self) -> String {
         let scene = self.scene;
-        let (owner, meet) = (scene.principal(self.owner), scene.principal(self.meet));
+        let (owner, meet) = (scene.called(self.owner), scene.called(self.meet));
         match self.stopped.floor {
             None => format!("Every label judged has to stand at or above {owner}."),
             Some(floor) if floor == self.owner => format!(
@@ -83,7 +83,7 @@ impl TooLow<'_> {
                  judged has to stand at or above {owner}."
             ),
             Some(floor) => {
-                let floor = scene.principal(floor);
+                let floor = scene.called(floor);
                 format!(
                     "The block is endorsed down to {floor}, so the meet of all labels judged has to stand at or \
                      above {owner}, or at or above {floor}. It is {meet}, which does neither."
@@ -94,7 +94,7 @@ impl TooLow<'_> {
 
     /// A floor that is the owner is no bar of its own.
     fn bars(&self) -> Vec<Bar> {
-        let called = self.scene.principal(self.owner);
+        let called = self.scene.called(self.owner);
         let principal = self.owner;
         let mut bars = vec![Bar { principal, called }];
         let floor = self.stopped.floor.filter(|floor| *floor != self.owner);
@@ -177,71 +177,6 @@ impl TooLow<'_> {
             }
             Labelled::Branch => "no guard around it pulls it down".to_string(),
         }
-    }
-
-    /// What would let each label that is too low pass: for the bar that the fewest
-    /// are too low for.
-    fn mends(&self) -> String {
-        let low = |bar: &Bar| {
-            let labels = Labelled::ALL.into_iter();
-            let low = labels.filter(|of| !self.blamed(*of, bar.principal).is_empty());
-            low.collect::<Vec<_>>()
-        };
-        let bars = self.bars().into_iter().rev();
-        let bar = bars.min_by_key(|bar| low(bar).len());
-        let mends = bar.into_iter().flat_map(|bar| {
-            let above = self.scene.principal(bar.principal);
-            let low = low(&bar).into_iter();
-            low.map(move |of| mend(of, &above))
-        });
-        mends.collect::<Vec<_>>().join("; and ")
-    }
-
-    /// Down to which principal the block can be endorsed for the assignment to pass,
-    /// and all that its present floor lets pass.
-    fn floor_to_pass(&self) -> u8 {
-        let floor = self.stopped.floor;
-        let lower = floor.and_then(|floor| self.scene.meet(floor, self.meet));
-        lower.unwrap_or(self.meet)
-    }
-
-    /// To endorse a block is somebody's decision, so it is said what that gives
-    /// away.
-    fn endorse(&self) -> String {
-        let (scene, block) = (self.scene, self.stopped.block);
-        let name = scene.names.block(block);
-        let name = name.map_or(String::new(), |name| format!("{name} : "));
-        let region = scene.principal(self.stopped.region);
-        let down_to = self.floor_to_pass();
-        let floor = scene.principal(down_to);
-        let head = format!("`block {name}{region} endorsed down to {floor} {{ .. }}`");
-        match scene.is_bottom(down_to) {
-            true => format!(
-                "  Or, if block {block} may rely on what anybody sends, endorse it down to {floor}, which stands below \
-                 all: {head}. Everybody then has a say in what this block writes."
-            ),
-            false => format!(
-                "  Or, if block {block} may rely on what comes from {floor}, endorse it down to {floor}: {head}. \
-                 {floor} and whoever stands above it then have a say in what this block writes."
-            ),
-        }
-    }
-}
-
-/// What would let a label stand at or above this principal.
-fn mend(of: Labelled, above: &str) -> String {
-    match of {
-        Labelled::Target => {
-            "write the slot that is meant by its name, so that the target comes from no slot"
-                .to_string()
-        }
-        Labelled::Value => {
-            format!("take the value from literals and from slots owned at or above {above}")
-        }
-        Labelled::Branch => format!(
-            "move the assignment to where no such guard is around it, or let the guard come from slots owned at or \
-             above {above}"
-        ),
     }
 }
 

@@ -12,23 +12,22 @@ pub fn no_authority(
     (slot, owner): (usize, u8),
     target: &Seen,
 ) -> Vec<String> {
-    let (name, owner_name) = (scene.slot(slot), scene.principal(owner));
+    let (name, owner_name) = (scene.slot(slot), scene.called(owner));
     let chosen = match scene.read_from(target, |_| true) {
         Some(read) => format!(" The target, `write {name}`, was {read}."),
         None => String::new(),
     };
-    let above = scene.at_or_above(owner);
     vec![
         format!("  It would write {name}, which {owner_name} owns.{chosen}"),
         format!(
             "  The block's region has to stand at or above {owner_name}, and {} does not. Those that do: {}.",
-            scene.principal(region),
-            words::list(&above)
+            scene.called(region),
+            scene.those_above(owner)
         ),
         format!(
-            "  What to do: {}, or have a block of region {} write {name}.",
+            "  What to do: {}, or have a block of {} write {name}.",
             instead(scene, region),
-            words::list_or(&above)
+            scene.regions_above(owner)
         ),
     ]
 }
@@ -54,18 +53,18 @@ pub fn write_view_not_allowed(
             format!("leave {view} out"),
         ),
     };
-    let region_name = scene.principal(region);
+    let (region_name, region_called) = (scene.principal(region), scene.called(region));
     vec![
         format!("  It would meet {view}, a write view of {slot}: {came}."),
         format!(
-            "  Under {} a block of region {region_name} may meet write views of slots owned at or below {region_name} \
+            "  Under {} a block of region {region_name} may meet write views of slots owned at or below {region_called} \
              alone: {}.",
             scene.rule,
             or_none(&scene.slots_at_or_below(region))
         ),
         format!(
-            "  What to do: {mend}, or have a block of region {} do this.",
-            words::list_or(&scene.at_or_above(owner))
+            "  What to do: {mend}, or have a block of {} do this.",
+            scene.regions_above(owner)
         ),
     ]
 }
@@ -81,7 +80,7 @@ fn role_word(role: Role) -> &'static str {
 /// What a region may write in place of another's slot.
 fn instead(scene: &Scene, region: u8) -> String {
     let slots = scene.slots_at_or_below(region);
-    let region = scene.principal(region);
+    let region = scene.called(region);
     match slots.is_empty() {
         true => format!("give {region} a slot of its own to write"),
         false => format!(

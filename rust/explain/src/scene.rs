@@ -27,6 +27,12 @@ impl Scene<'_> {
         self.names.principal(usize::from(number))
     }
 
+    /// The same where a sentence could take the name for a word: "the principal
+    /// nobody".
+    pub(crate) fn called(&self, number: u8) -> String {
+        words::called(&self.principal(number))
+    }
+
     pub(crate) fn slot(&self, number: usize) -> String {
         self.names.slot(number)
     }
@@ -42,7 +48,7 @@ impl Scene<'_> {
     /// "place, which digA owns"
     pub(crate) fn slot_with_owner(&self, slot: usize) -> String {
         match self.owners.get(slot) {
-            Some(owner) => format!("{}, which {} owns", self.slot(slot), self.principal(*owner)),
+            Some(owner) => format!("{}, which {} owns", self.slot(slot), self.called(*owner)),
             None => self.slot(slot),
         }
     }
@@ -58,13 +64,22 @@ impl Scene<'_> {
         (0..=u8::MAX).take(self.masks.len())
     }
 
-    /// The names of all principals at or above this one.
-    pub(crate) fn at_or_above(&self, lower: u8) -> Vec<String> {
+    /// All principals at or above this one.
+    fn at_or_above(&self, lower: u8) -> impl Iterator<Item = u8> + use<'_> {
         let above = self.principals();
-        above
-            .filter(|upper| self.is_at_or_above(*upper, lower))
-            .map(|upper| self.principal(upper))
-            .collect()
+        above.filter(move |upper| self.is_at_or_above(*upper, lower))
+    }
+
+    /// "lab and the principal nobody"
+    pub(crate) fn those_above(&self, lower: u8) -> String {
+        let above = self.at_or_above(lower).map(|upper| self.called(upper));
+        words::list(&above.collect::<Vec<_>>())
+    }
+
+    /// "region lab or nobody"
+    pub(crate) fn regions_above(&self, lower: u8) -> String {
+        let above = self.at_or_above(lower).map(|upper| self.principal(upper));
+        format!("region {}", words::list_or(&above.collect::<Vec<_>>()))
     }
 
     /// The greatest of those that stand below both.

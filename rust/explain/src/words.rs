@@ -36,6 +36,54 @@ pub fn clauses(all: &[String]) -> String {
     shortened(all).join(", and ")
 }
 
+/// Names that a sentence would take for a word of its own.
+const MISREAD: [&str; 28] = [
+    "all",
+    "any",
+    "anybody",
+    "anyone",
+    "both",
+    "each",
+    "either",
+    "everybody",
+    "everyone",
+    "everything",
+    "he",
+    "it",
+    "itself",
+    "me",
+    "neither",
+    "no_one",
+    "nobody",
+    "none",
+    "noone",
+    "nothing",
+    "others",
+    "she",
+    "somebody",
+    "someone",
+    "they",
+    "we",
+    "who",
+    "you",
+];
+
+/// A principal's name as a sentence has it: "digA", but "the principal nobody".
+pub fn called(name: &str) -> String {
+    match MISREAD.contains(&name.to_lowercase().as_str()) {
+        true => format!("the principal {name}"),
+        false => name.to_string(),
+    }
+}
+
+/// Such words at the start of a sentence. A name itself stays as it is.
+pub fn at_start(called: &str) -> String {
+    match called.strip_prefix("the principal ") {
+        Some(name) => format!("The principal {name}"),
+        None => called.to_string(),
+    }
+}
+
 #[cfg(test)]
 mod tests {
     use super::*;
@@ -56,6 +104,18 @@ mod tests {
         ];
         for (count, text) in known {
             assert_eq!(list(&names(count)), text);
+        }
+    }
+    #[test]
+    fn names_that_read_as_words_are_set_apart() {
+        let known = [
+            ("digA", "digA"),
+            ("nobody", "the principal nobody"),
+            ("Nobody", "the principal Nobody"),
+            ("nobody2", "nobody2"),
+        ];
+        for (name, words) in known {
+            assert_eq!(called(name), words);
         }
     }
 }

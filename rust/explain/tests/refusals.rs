@@ -185,6 +185,69 @@ runs of their own."
     );
 }
 
+/// A run that is carried on with a budget that it has passed.
+#[test]
+fn a_budget_includes_the_steps_so_far() {
+    let counting = with_block("block lab { while true { curve := curve + 1 } }");
+    let words = |at, budget| counting.refusal_carried_on(Rule::FullProvenance, at, budget);
+    assert_eq!(
+        words(200, 5),
+        "\
+refused by 17: budget spent
+  at deputy.mz:5:13, block 0 (region lab), offset 0, after 200 steps: while true
+  The budget is 5 steps, and 200 steps are done already: a budget includes the steps so far.
+  It is in a while: if that never ends, no budget is enough.
+  What to do: give a budget above 200, up to 1000000 steps, or run in slices and carry on from the checkpoint."
+    );
+    let same = words(200, 200);
+    assert!(
+        same.contains("The budget is 200 steps; 200 steps are done, and"),
+        "{same}"
+    );
+    let all = words(MOST_BUDGET, 5);
+    assert!(all.contains("1000000 steps are done already"), "{all}");
+    assert!(all.contains("no run does more than 1000000 steps"), "{all}");
+}
+
+/// A name that a sentence would take for a word of its own is said to be a name.
+#[test]
+fn a_principal_called_nobody_is_not_misread() {
+    let none = with_block("block nobody { place := 5 }").refusal(Rule::FullProvenance);
+    assert!(
+        none.ends_with(
+            "\
+  The block's region has to stand at or above digA, and the principal nobody does not. Those that do: digA and lab.
+  What to do: give the principal nobody a slot of its own to write, or have a block of region digA or lab write place."
+        ),
+        "{none}"
+    );
+    let view = with_block("block nobody { if place == 5 { skip } }").refusal(Rule::Capability);
+    let slots = "a block of region nobody may meet write views of slots owned at or below the principal nobody alone";
+    assert!(view.contains(slots), "{view}");
+    let owned =
+        text("principals nobody < lab slot x : nobody = 5 slot y : lab = 1 block lab { y := x }");
+    let owned = owned.refusal(Rule::FullProvenance);
+    assert!(
+        owned.contains("too low: read from x, which the principal nobody owns\n"),
+        "{owned}"
+    );
+    let highest = text("principals lab < nobody slot x : nobody = 5 block lab { x := 1 }");
+    let highest = highest.refusal(Rule::FullProvenance);
+    for words in [
+        "It would write x, which the principal nobody owns.",
+        "has to stand at or above the principal nobody, and lab does not. Those that do: the principal nobody.",
+        "or have a block of region nobody write x.",
+    ] {
+        assert!(highest.contains(words), "{highest}");
+    }
+    let kind = text("principals nobody slot x : nobody = 5 block nobody { if x { skip } }");
+    let kind = kind.refusal(Rule::FullProvenance);
+    assert!(
+        kind.contains("read from x, which the principal nobody owns."),
+        "{kind}"
+    );
+}
+
 #[test]
 fn a_full_journal_says_how_long_it_is() {
     let counting = with_block("block lab { while true { curve := curve + 1 } }");

@@ -123,7 +123,7 @@ impl Reader<'_> {
         let below = (0..MOST_PRINCIPALS).filter(|lower| mask >> lower & 1 == 1);
         let below: Vec<String> = below.map(|lower| self.names.principal(lower)).collect();
         let below = match below.is_empty() {
-            true => "nobody".to_string(),
+            true => "none".to_string(),
             false => below.join(", "),
         };
         format!("at or below {}: {below}", self.names.principal(principal))

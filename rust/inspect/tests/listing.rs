@@ -92,3 +92,17 @@ fn models_of_good_sheets_come_to_the_same_bytes() {
         assert_eq!(notation::programme_bytes(&programme), Ok(pair.programme));
     }
 }
+
+/// An empty mask has no name that could be a principal's.
+#[test]
+fn an_empty_mask_is_listed_as_none() {
+    let sheet = Sheet {
+        bytes: &[1, 0, 0, 0, 0, 0, 0],
+        at: 0,
+    };
+    let page = listing(Some(sheet), None, None, &Names::default());
+    assert!(
+        page.contains("# at or below p0: none  <-- refused by 3: "),
+        "{page}"
+    );
+}

@@ -14,7 +14,7 @@ mod tree;
 mod words;
 
 pub use crate::names::Names;
-pub use crate::near::suggestion;
+pub use crate::near::{closest, suggestion};
 pub use crate::tree::{
     Block, Code, Command, Expression, Floor, Form, Operator, Programme, Slot, Store,
 };

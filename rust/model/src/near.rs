@@ -5,10 +5,25 @@ const MOST: usize = 3;
 /// Longer names are not looked at.
 const LONGEST: usize = 60;
 
+/// Of the names that differ from this one by a slip or two of the pen the closest;
+/// nothing where there are none.
+pub fn closest<'n>(name: &str, names: impl IntoIterator<Item = &'n str>) -> Option<&'n str> {
+    close(name, names).into_iter().next()
+}
+
 /// `did you mean ..?` with the names that differ from this one by a slip or two
 /// of the pen, closest first; nothing where there are none.
 pub fn suggestion<'n>(name: &str, names: impl IntoIterator<Item = &'n str>) -> Option<String> {
-    let written = letters(name)?;
+    let close = close(name, names).into_iter().take(MOST);
+    let close: Vec<String> = close.map(|name| format!("`{name}`")).collect();
+    (!close.is_empty()).then(|| format!("did you mean {}?", close.join(" or ")))
+}
+
+/// All that are close, the closest first.
+fn close<'n>(name: &str, names: impl IntoIterator<Item = &'n str>) -> Vec<&'n str> {
+    let Some(written) = letters(name) else {
+        return vec![];
+    };
     let allowed = match written.len() {
         1 => 0,
         2..=4 => 1,
@@ -19,9 +34,7 @@ pub fn suggestion<'n>(name: &str, names: impl IntoIterator<Item = &'n str>) -> O
         .filter_map(|other| Some((distance(&written, &letters(other)?, allowed)?, other)))
         .collect();
     close.sort_by_key(|(distance, _)| *distance);
-    let close = close.iter().take(MOST);
-    let close: Vec<String> = close.map(|(_, name)| format!("`{name}`")).collect();
-    (!close.is_empty()).then(|| format!("did you mean {}?", close.join(" or ")))
+    close.into_iter().map(|(_, name)| name).collect()
 }
 
 /// Upper and lower case count as the same.
@@ -71,6 +84,9 @@ mod tests {
         ];
         for (name, told) in cases {
             assert_eq!(suggestion(name, names).as_deref(), told, "{name}");
+            let first = closest(name, names).map(|name| format!("did you mean `{name}`"));
+            let starts = |first: String| told.is_some_and(|told| told.starts_with(&first));
+            assert_eq!(first.is_some_and(starts), told.is_some(), "{name}");
         }
     }
 }

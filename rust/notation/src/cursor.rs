@@ -56,6 +56,14 @@ impl<'s, 't> Cursor<'s, 't> {
         self.peek().is_word(word).then(|| self.take())
     }
 
+    /// Whether a `-` is next that stands close between what was taken last and a name
+    /// or number.
+    pub fn is_joined(&self) -> bool {
+        let (sign, next) = (self.peek(), self.ahead(1));
+        let is_part = matches!(next.kind, Kind::Name(_) | Kind::Number(_) | Kind::Word(_));
+        sign.is("-") && is_part && self.after() == sign.place && sign.after == next.place
+    }
+
     pub fn is_at_end(&self) -> bool {
         matches!(self.peek().kind, Kind::End(_))
     }

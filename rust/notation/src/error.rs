@@ -13,6 +13,9 @@ pub struct Error {
     /// From 1, in characters.
     pub column: usize,
     pub message: String,
+    /// How many errors it stands for: 1, but for a last one that says how many more
+    /// there are.
+    pub number: usize,
 }
 
 /// `LINE:COLUMN: MESSAGE`.
@@ -64,17 +67,18 @@ impl Errors {
         self.found.sort_by_key(|(place, _)| *place);
         self.found.dedup_by_key(|(place, _)| *place);
         let more = self.found.len().saturating_sub(Errors::MOST_TOLD);
-        if more > 0 {
-            let message = match more {
+        let mut errors: Vec<Error> = self.found.into_iter().map(error).collect();
+        errors.truncate(Errors::MOST_TOLD + 1);
+        if let Some(last) = errors.get_mut(Errors::MOST_TOLD) {
+            last.number = more;
+            last.message = match more {
                 1 => "and 1 more error here".to_string(),
                 _ => format!("and {more} more errors from here on"),
             };
-            self.found[Errors::MOST_TOLD].1 = message;
-            self.found.truncate(Errors::MOST_TOLD + 1);
         }
-        match self.found.is_empty() {
+        match errors.is_empty() {
             true => Ok(()),
-            false => Err(self.found.into_iter().map(error).collect()),
+            false => Err(errors),
         }
     }
 }
@@ -84,5 +88,6 @@ fn error((place, message): (Place, String)) -> Error {
         line: place.line,
         column: place.column,
         message,
+        number: 1,
     }
 }

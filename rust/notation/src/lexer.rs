@@ -2,7 +2,7 @@
 
 use crate::error::Errors;
 use crate::place::Place;
-use crate::sign::{DASHES, SIGNS, WRONG};
+use crate::sign::{DASHES, QUOTES, SIGNS, WRONG};
 use crate::token::{Kind, Token};
 use crate::word::Word;
 
@@ -50,7 +50,7 @@ fn starts_name(character: char) -> bool {
 }
 
 fn in_name(character: char) -> bool {
-    character.is_alphanumeric() || character == '_'
+    starts_name(character) || character.is_ascii_digit()
 }
 
 impl<'t> Lexer<'t, '_> {
@@ -92,8 +92,11 @@ impl<'t> Lexer<'t, '_> {
             self.pass_while(char::is_whitespace);
             return None;
         }
-        if first == '#' || self.other_comment() {
-            self.pass_while(|character| !['\n', '\r'].contains(&character));
+        if first == '#' {
+            self.pass_line();
+            return None;
+        }
+        if self.other_comment() {
             return None;
         }
         if starts_name(first) {
@@ -103,18 +106,49 @@ impl<'t> Lexer<'t, '_> {
         if first.is_ascii_digit() {
             return Some(Kind::Number(self.number()));
         }
-        self.sign().or_else(|| self.unknown(first))
+        let string = self.string(first);
+        string
+            .or_else(|| self.sign())
+            .or_else(|| self.unknown(first))
+    }
+
+    fn pass_line(&mut self) {
+        self.pass_while(|character| !['\n', '\r'].contains(&character));
     }
 
     /// Comments of other languages are told, and passed over as comments.
     fn other_comment(&mut self) -> bool {
-        let other = ["//", "/*"];
-        let is_other = other.iter().any(|start| self.rest().starts_with(start));
-        if is_other {
-            let message = "a comment is from `#` to the end of the line";
-            self.errors.add(self.place, message);
+        let rest = self.rest();
+        let is_enclosed = rest.starts_with("/*");
+        if !is_enclosed && !rest.starts_with("//") {
+            return false;
         }
-        is_other
+        let message = "a comment is from `#` to the end of the line";
+        self.errors.add(self.place, message);
+        let closing = rest.find("*/").filter(|at| is_enclosed && *at > 1);
+        match closing {
+            Some(at) => {
+                self.pass(at + "*/".len());
+            }
+            None => self.pass_line(),
+        }
+        true
+    }
+
+    /// A string is told, and stands for a value. One that its line does not close is
+    /// taken to be one word.
+    fn string(&mut self, first: char) -> Option<Kind<'t>> {
+        let (open, close) = QUOTES.into_iter().find(|(open, _)| *open == first)?;
+        let message = "there are no strings: a value is an integer, a truth value or a view";
+        self.errors.add(self.place, message);
+        self.pass(open.len_utf8());
+        let rest = self.rest();
+        let line = rest.split(['\n', '\r']).next().unwrap_or(rest);
+        match line.find(close) {
+            Some(at) => self.pass(at + close.len_utf8()),
+            None => self.pass_while(in_name),
+        };
+        Some(Kind::Number(0))
     }
 
     fn sign(&mut self) -> Option<Kind<'t>> {
@@ -185,6 +219,7 @@ fn is_unknown(character: char) -> bool {
         && !starts_name(character)
         && !character.is_ascii_digit()
         && !DASHES.contains(&character)
+        && !QUOTES.iter().any(|(open, _)| *open == character)
         && !signs.into_iter().any(|sign| sign.starts_with(character))
 }
 

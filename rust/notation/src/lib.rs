@@ -36,6 +36,7 @@ mod emit;
 mod error;
 mod lexer;
 mod limits;
+mod misspelt;
 mod parse;
 mod place;
 mod principals;
@@ -93,7 +94,8 @@ pub struct Tables {
 /// one that says how many more there are.
 pub fn assemble(text: &str) -> Result<Assembled, Vec<Error>> {
     let mut errors = Errors::default();
-    let tokens = lexer::tokens(text, &mut errors);
+    let mut tokens = lexer::tokens(text, &mut errors);
+    misspelt::mend(&mut tokens, &mut errors);
     let statements = statement::split(&tokens);
     let reading = reading::read(&tokens, &statements, &mut errors);
     errors.told()?;
@@ -137,5 +139,6 @@ fn unwritten(error: BuildError) -> Vec<Error> {
         line: Place::START.line,
         column: Place::START.column,
         message: error.to_string(),
+        number: 1,
     }]
 }

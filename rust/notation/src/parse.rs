@@ -3,15 +3,17 @@
 mod block;
 mod command;
 mod expression;
+mod foreign;
 mod slot;
 
 use model::suggestion;
 
 use crate::cursor::Cursor;
 use crate::error::{Errors, Told};
+use crate::misspelt::STATEMENT;
 use crate::place::Place;
 use crate::scope::{Name, Scope, Sort};
-use crate::token::Kind;
+use crate::token::{quoted, Kind};
 use crate::word::Word;
 
 pub use block::BlockLine;
@@ -82,7 +84,28 @@ impl<'a, 't> Parser<'a, 't> {
     /// The byte of the principal or slot that is named next.
     pub fn named(&mut self, sort: Sort, what: &str) -> Parsed<u8> {
         let name = self.name(what)?;
-        Ok(self.scope.byte(sort, name, self.errors))
+        Ok(match sort == Sort::Principal && self.hyphen(name) {
+            true => 0,
+            false => self.scope.byte(sort, name, self.errors),
+        })
+    }
+
+    /// Whether a `-` joins something to the name that was taken last. That is told,
+    /// and passed over.
+    pub fn hyphen(&mut self, name: Name) -> bool {
+        let place = self.cursor.peek().place;
+        let mut meant = name.text.to_string();
+        while self.cursor.is_joined() {
+            self.cursor.take();
+            meant = format!("{meant}_{}", self.cursor.take().text);
+        }
+        let is_joined = meant != name.text;
+        if is_joined {
+            let meant = quoted(&meant);
+            let message = format!("a name has letters, digits and `_`, and no `-`: write {meant}");
+            self.tell(place, message);
+        }
+        is_joined
     }
 
     /// What follows a whole statement: the next one, and nothing between.
@@ -98,9 +121,11 @@ impl<'a, 't> Parser<'a, 't> {
             Kind::Name(name) => {
                 let words = Word::STATEMENTS.map(Word::text);
                 let suggestion = suggestion(name, words).map(|meant| format!(": {meant}"));
-                let expected = "expected `principals`, `slot`, `block` or `no blocks`, found";
                 let shown = token.shown();
-                format!("{expected} {shown}{}", suggestion.unwrap_or_default())
+                format!(
+                    "{STATEMENT}, found {shown}{}",
+                    suggestion.unwrap_or_default()
+                )
             }
             _ => {
                 self.expected("`principals`, `slot`, `block` or `no blocks`");

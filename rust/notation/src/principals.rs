@@ -46,22 +46,30 @@ impl Order {
         }
     }
 
+    /// One more of a group, above those before.
+    fn member(&mut self, name: Name, group: &mut Vec<usize>, lower: &[usize], parser: &mut Parser) {
+        let number = self.declare(name, parser.errors);
+        if lower.contains(&number) {
+            let message = format!("{} can't stand below itself", quoted(name.text));
+            parser.tell(name.place, message);
+            self.declared.incomplete = true;
+        }
+        // What is past the limit is told, and left out.
+        if number < MOST_PRINCIPALS && !group.contains(&number) {
+            self.below
+                .extend(lower.iter().map(|lower| (*lower, number)));
+            group.push(number);
+        }
+    }
+
     /// Principals with commas between, each above those before.
     fn group(&mut self, parser: &mut Parser, lower: &[usize]) -> Parsed<Vec<usize>> {
         let mut group = vec![];
         loop {
             let name = parser.name("a principal's name")?;
-            let number = self.declare(name, parser.errors);
-            if lower.contains(&number) {
-                let message = format!("{} can't stand below itself", quoted(name.text));
-                parser.tell(name.place, message);
-                self.declared.incomplete = true;
-            }
-            // What is past the limit is told, and left out.
-            if number < MOST_PRINCIPALS && !group.contains(&number) {
-                self.below
-                    .extend(lower.iter().map(|lower| (*lower, number)));
-                group.push(number);
+            match parser.hyphen(name) {
+                true => self.declared.incomplete = true,
+                false => self.member(name, &mut group, lower, parser),
             }
             let token = parser.cursor.peek();
             match token.kind {

@@ -79,12 +79,11 @@ fn scope(principals: Declared, statements: &[Statement], errors: &mut Errors) ->
         numbered: !has_principals && !has_slots,
     };
     for statement in of(statements, Word::Slot) {
-        match statement
-            .tokens
-            .get(1)
-            .map(|token| (token.kind, token.place))
-        {
-            Some((Kind::Name(text), place)) => {
+        let mut cursor = statement.cursor();
+        cursor.take();
+        let Token { kind, place, .. } = cursor.take();
+        match kind {
+            Kind::Name(text) if !cursor.is_joined() => {
                 scope.slots.declare(Name { text, place });
             }
             _ => scope.slots.incomplete = true,

@@ -6,8 +6,8 @@ pub const SIGNS: [&str; 15] = [
 ];
 
 const OPERATIONS_ALONE: &str = "the operations are `+`, `-`, `<` and `==`";
-const NESTED: &str = "put an `if` inside an `if`";
-const ELSE_IF: &str = "write `if a { .. } else if b { .. }`";
+pub const NESTED: &str = "put an `if` inside an `if`";
+pub const ELSE_IF: &str = "write `if a { .. } else if b { .. }`";
 
 /// Signs that there are not, and what to write instead. Longer ones first.
 pub const WRONG: [(&str, &str); 15] = [
@@ -26,6 +26,14 @@ pub const WRONG: [(&str, &str); 15] = [
     ("%", OPERATIONS_ALONE),
     ("^", OPERATIONS_ALONE),
     ("?", OPERATIONS_ALONE),
+];
+
+/// Marks of strings, which there are not: the opening and the closing one.
+pub const QUOTES: [(char, char); 4] = [
+    ('"', '"'),
+    ('\'', '\''),
+    ('\u{201c}', '\u{201d}'),
+    ('\u{2018}', '\u{2019}'),
 ];
 
 /// Characters that look like a minus sign and are none.

@@ -32,9 +32,10 @@ impl Slots {
             let Ok(name) = parser.name("the slot's name") else {
                 continue;
             };
+            let is_joined = parser.hyphen(name);
             let line = parser.slot_line(name.text).ok();
             slots.is_followed |= line.is_some() && !parser.cursor.is_at_end();
-            if is_first(name, scope, errors) {
+            if !is_joined && is_first(name, scope, errors) {
                 judge_count(slots.lines.len(), name.place, errors);
                 slots.lines.push(line);
             }

@@ -210,3 +210,22 @@ fn line_ends() {
         );
     }
 }
+
+/// Names that are close to the words of statements may start a line wherever a name
+/// may stand.
+#[test]
+fn names_close_to_words_of_statements() {
+    let text = "principals a <
+  block1, slots <
+  Principals
+slot
+  slot1 : a
+block
+  Block : a { slot1 :=
+  slot1
+}
+";
+    let names = assemble(text).expect("a good text").names;
+    assert_eq!(names.principals, ["a", "block1", "slots", "Principals"]);
+    assert_eq!(names.blocks, [Some("Block".to_string())]);
+}

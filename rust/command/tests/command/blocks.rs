@@ -82,8 +82,8 @@ fn an_endorsed_block_stays_endorsed() {
 #[test]
 fn several_files_go_where_the_programme_as_it_was_says() {
     let desk = desk();
-    let twice = ["--block=digB=itself.bin", "--block=digB=seven.bin"];
-    let ran = desk.run(&[&["run", "deputy.mz", "--rule=0"], &twice[..]].concat());
+    let both = ["--block=digB=itself.bin", "--block=nobody=seven.bin"];
+    let ran = desk.run(&[&["run", "deputy.mz", "--rule=0"], &both[..]].concat());
     let blocks: Vec<&str> = ran.error.lines().collect();
     assert!(
         blocks[0].contains("itself.bin: 21 bytes of code for block 2 (a new"),
@@ -93,9 +93,18 @@ fn several_files_go_where_the_programme_as_it_was_says() {
         blocks[1].contains("seven.bin: 21 bytes of code for block 3 (a new"),
         "{ran:?}"
     );
-    let same = ["--block=digA=itself.bin", "--block=digA=seven.bin"];
-    let ran = desk.run(&[&["run", "deputy.mz"], &same[..]].concat());
-    ran.fails("--block digA: it is given twice");
+    for name in ["digA", "digB"] {
+        let same = ["itself", "seven"].map(|file| format!("--block={name}={file}.bin"));
+        let ran = desk.run(&["run", "deputy.mz", &same[0], &same[1]]);
+        ran.fails(&format!("--block {name}: it is given twice"));
+    }
+    desk.put(
+        "named.mz",
+        DEPUTY.replace("block digA", "block intake : digA"),
+    );
+    let same = ["--block=intake=itself.bin", "--block=digA=seven.bin"];
+    let ran = desk.run(&[&["run", "named.mz"], &same[..]].concat());
+    ran.fails("--block digA: that is the block intake, which is given too");
 }
 
 #[test]
@@ -136,7 +145,9 @@ fn code_that_is_not_good_is_refused_at_its_byte() {
     assert_eq!(lines[1], place);
     let command =
         "  the last command that starts before it is the assignment at cut.bin: byte 0, offset 0";
-    assert_eq!(lines.last(), Some(&command));
+    assert_eq!(lines[lines.len() - 2], command);
+    let listed = "  `muntyzhap dis deputy.mz --block digA=cut.bin` lists the sheets";
+    assert_eq!(lines.last(), Some(&listed));
     assert_eq!(ran.status, Some(1));
     desk.put("sheet.bin", b"\x01\x01\0\x03\x01\0\0\x20");
     let ran = desk.run(&["run", "deputy.mz", "--block=digA=sheet.bin"]);
@@ -192,6 +203,43 @@ fn nothing_goes_into_a_damaged_sheet_or_past_the_limits() {
     assert!(ran.out().starts_with("refused by 6: "), "{ran:?}");
     desk.put("long.bin", [0x20; 16_384]);
     let ran = desk.run(&["run", "deputy.mz", "--block=digA=long.bin"]);
-    assert_eq!((ran.status, ran.out()), (Some(2), ""));
-    assert!(ran.error.contains("16406"), "{ran:?}");
+    ran.fails(
+        "long.bin: too long for block 0, region digA: it has 16384 bytes of code and the other blocks 22, \
+         and a programme has at most 16384 bytes of code in all",
+    );
+}
+
+/// What is no code, and what is said of it after the note of where it went.
+#[test]
+fn a_text_or_a_sheet_in_place_of_code_is_told() {
+    let desk = desk();
+    desk.put("customer.mz", "block p1 { s0 := 7 }");
+    desk.put("two.bin", desk.sheets(DEPUTY));
+    desk.put("one.bin", desk.sheets("block p1 { s0 := 7 }"));
+    let cases = [
+        (
+            "customer.mz",
+            "is a text: `muntyzhap asm customer.mz --only code -o customer.bin` makes its code",
+        ),
+        (
+            "two.bin",
+            "is a store sheet and a programme sheet of 2 blocks: give the code of one block alone",
+        ),
+        (
+            "one.bin",
+            "is a programme sheet: `tail -c +8 one.bin` leaves its code",
+        ),
+    ];
+    for (file, words) in cases {
+        let ran = desk.run(&["run", "deputy.mz", &format!("--block=digA={file}")]);
+        assert!(ran.out().starts_with("refused by 9: "), "{ran:?}");
+        let last = ran.error.lines().last();
+        assert_eq!(last, Some(format!("{file} {words}").as_str()));
+    }
+    let whole = desk.read("one.bin");
+    assert_eq!(whole[7..], SEVEN);
+    // A skip is a space: that is code, and no text.
+    desk.put("skip.bin", " ");
+    let ran = desk.run(&["run", "deputy.mz", "--block=digA=skip.bin"]);
+    assert_eq!((ran.error.lines().count(), ran.status), (1, Some(0)));
 }

@@ -183,3 +183,24 @@ fn a_full_journal_is_told() {
     ran.says(1, "refused by 18: ");
     ran.says(1, "after 1 step");
 }
+
+#[test]
+fn the_printing_programs_input_is_told() {
+    let desk = Desk::new();
+    let sheets = desk.sheets(DEPUTY);
+    let hint = |tail: &str| {
+        format!(
+            "\n  it looks like the printing program's input, where 5 bytes of rule and budget come first \
+             (here 3 and 1000): `{tail}` leaves the sheets\n"
+        )
+    };
+    let input = [b"\x03\xE8\x03\0\0", &sheets[..]].concat();
+    desk.put("input.bin", &input);
+    desk.run(&["explain", "input.bin"])
+        .says(1, &hint("tail -c +6 input.bin"));
+    desk.run_with(&["explain", "-"], &input)
+        .says(1, &hint("tail -c +6"));
+    desk.put("other.bin", &input[..30]);
+    let other = desk.run(&["explain", "other.bin"]);
+    assert!(!other.out().contains("printing"), "{other:?}");
+}

@@ -97,11 +97,11 @@ fn an_empty_file_is_a_text_with_an_error() {
 fn a_text_in_another_encoding_is_noted() {
     let desk = Desk::with("latin.mz", [&b"# \xE4\n"[..], DEPUTY.as_bytes()].concat());
     let ran = desk.run(&["run", "latin.mz"]);
-    let note = "latin.mz is taken for sheets, as it is not text: byte E4 at offset 2; if it is text, save it as UTF-8\n";
+    let note = "latin.mz is taken for sheets, as it is not text: byte E4 at offset 2 (line 1, column 3); if it is text, save it as UTF-8\n";
     assert_eq!((ran.error.as_str(), ran.status), (note, Some(1)));
     assert!(ran.out().starts_with("refused by 2: "), "{ran:?}");
     let ran = desk.run(&["run", "latin.mz", "--text-input"]);
-    ran.fails("latin.mz: not text: byte E4 at offset 2; if it is text, save it as UTF-8");
+    ran.fails("latin.mz: not text: byte E4 at offset 2 (line 1, column 3); if it is text, save it as UTF-8");
 }
 
 #[test]
@@ -164,7 +164,9 @@ fn a_full_disk_under_standard_error_ends_with_2() {
         .expect("a device");
     let mut command = desk.command(&["run", "deputy.mz", "--trace", "--rule=0"]);
     let child = command.stdout(Stdio::piped()).stderr(full).spawn();
-    assert_eq!(ended(child.expect("the command"), b"").status, Some(2));
+    let ran = ended(child.expect("the command"), b"");
+    assert!(ran.out().starts_with("finished: 2 blocks, "), "{ran:?}");
+    assert_eq!(ran.status, Some(2));
 }
 
 /// Nobody reads any more: the command ends quietly, whatever it writes.
@@ -179,7 +181,14 @@ fn a_closed_pipe_ends_the_command_quietly() {
         .expect("the command");
     drop(child.stdout.take());
     ended(child, b"").is(2, "", "");
-    for options in [&["--trace"][..], &["--slice=1"]] {
+}
+
+/// Lines of progress and notes are no reason to lose what a run came to.
+#[test]
+fn a_run_goes_on_where_standard_error_fails() {
+    let desk = Desk::with("counting.mz", COUNTING);
+    let whole = desk.run(&["run", "counting.mz"]);
+    for options in [&["--trace"][..], &["--slice=1"], &["--slice=1", "--trace"]] {
         let mut run = desk.command(&[&["run", "counting.mz"], options].concat());
         let mut child = run
             .stdout(Stdio::piped())
@@ -190,6 +199,26 @@ fn a_closed_pipe_ends_the_command_quietly() {
         let mut error = child.stderr.take().expect("a pipe");
         error.read_exact(&mut first).expect("a line's beginning");
         drop(error);
-        ended(child, b"").is(2, "", "");
+        ended(child, b"").is(2, whole.out(), "");
     }
+    let on_full = |arguments: &[&str]| {
+        let mut command = desk.command(arguments);
+        let full = OpenOptions::new().write(true).open("/dev/full");
+        let command = command.stderr(full.expect("a device"));
+        ended(
+            command.stdout(Stdio::piped()).spawn().expect("the command"),
+            b"",
+        )
+    };
+    on_full(&["run", "counting.mz", "--slice=700"]).is(2, whole.out(), "");
+    let ran = on_full(&["run", "counting.mz", "--slice=300", "--budget=1000"]);
+    assert!(ran.out().starts_with("paused by 17: "), "{ran:?}");
+    assert_eq!(ran.status, Some(2));
+    let resume = ["run", "counting.mz", "--resume=counting.mz.checkpoint"];
+    let noted = [&resume[..], &["--budget=3000"]].concat();
+    on_full(&noted).is(2, whole.out(), "");
+    assert_eq!(
+        desk.run(&noted).error,
+        "carried on with budget 3000; it was 1000 until the pause\n"
+    );
 }

@@ -120,18 +120,85 @@ fn the_text_of_a_programme_alone_is_assembled() {
 }
 
 #[test]
-fn a_text_is_no_sheets() {
+fn a_text_is_listed_with_its_names() {
     let desk = Desk::with("deputy.mz", DEPUTY);
-    desk.run(&["dis", "deputy.mz"]).fails(
-        "deputy.mz: text, and no sheets: `muntyzhap asm` makes sheets of it, and --sheets lists its bytes as they are",
-    );
+    let ran = desk.run(&["dis", "deputy.mz"]);
+    ran.says(0, "  [place] := 42\n");
+    assert_eq!(bytes(ran.out()), desk.sheets(DEPUTY));
+    let text = desk.run(&["dis", "deputy.mz", "--text"]);
+    text.says(0, "block lab {\n  [place] := 42\n}\n");
+    assert_eq!(desk.sheets(text.out()), desk.sheets(DEPUTY));
+    let alone = desk.run(&["dis", "deputy.mz", "--programme-only"]);
+    alone.says(0, "  [place] := 42\n");
+    assert_eq!(bytes(alone.out()), desk.sheets(DEPUTY)[49..]);
     let ran = desk.run(&["dis", "deputy.mz", "--sheets"]);
     ran.says(1, "<-- refused by 2: ");
     assert_eq!(bytes(ran.out()), DEPUTY.as_bytes());
     desk.put("empty", "");
-    desk.run(&["dis", "empty"]).fails("empty: empty");
+    let ran = desk.run(&["dis", "empty"]);
+    assert!(ran.error.starts_with("empty:1:1: "), "{ran:?}");
     desk.run(&["dis", "empty", "--sheets"])
         .says(1, "refused by 1");
+}
+
+#[test]
+fn the_text_of_a_programme_alone_keeps_its_names() {
+    let names = "principals digA < lab\nslot place : digA\nslot curve : lab\n";
+    let programme = format!("{names}\nblock digA {{\n  place := 7\n}}\n");
+    let desk = Desk::with("programme.mz", &programme);
+    desk.run(&["dis", "programme.mz", "--text"])
+        .is(0, &programme, "");
+    desk.run(&["dis", "programme.mz"]).says(0, "  place := 7\n");
+    desk.put(
+        "store.mz",
+        "principals digA < lab slot place : digA = 1 slot curve : lab = 2",
+    );
+    desk.run(&["dis", "programme.mz", "--store=store.mz", "--text"])
+        .says(
+            0,
+            "slot curve : lab  = 2\n\nblock digA {\n  place := 7\n}\n",
+        );
+    desk.put("store.mz", "principals digA < lab slot place : digA = 1");
+    let ran = desk.run(&["dis", "programme.mz", "--store=store.mz"]);
+    assert!(ran.error.ends_with(": 2 slots, and there 1\n"), "{ran:?}");
+    assert_eq!(ran.status, Some(2));
+}
+
+/// A customer's code is looked at before it runs.
+#[test]
+fn code_that_is_put_in_is_listed() {
+    let desk = Desk::with("deputy.mz", DEPUTY);
+    desk.put("deputy.bin", desk.sheets(DEPUTY));
+    let customer = DEPUTY.replace("place := write curve", "result := 7");
+    let customer = customer.replace("block lab  { [place] := 42 }", "");
+    desk.put("customer.mz", customer);
+    desk.run(&["asm", "customer.mz", "--only=code", "-o", "customer.bin"])
+        .is(0, "", "");
+    let note = |region| {
+        format!("customer.bin: 21 bytes of code for block 0 (the one block of its region), region {region}, not endorsed\n")
+    };
+    for (file, region, command) in [
+        ("deputy.mz", "digA", "result := 7\n"),
+        ("deputy.bin", "p1", "s1 := 7\n"),
+    ] {
+        let block = format!("--block={region}=customer.bin");
+        for text in [&[][..], &["--text"]] {
+            let ran = desk.run(&[&["dis", file, &block], text].concat());
+            assert_eq!((ran.error.clone(), ran.status), (note(region), Some(0)));
+            assert!(ran.out().contains(command), "{ran:?}");
+        }
+    }
+    desk.put("cut.bin", &desk.read("customer.bin")[..13]);
+    let cut = ["dis", "deputy.mz", "--block=digA=cut.bin"];
+    let ran = desk.run(&cut);
+    assert_eq!(ran.status, Some(1));
+    assert!(ran.out().contains("<-- refused by 9: "), "{ran:?}");
+    let ran = desk.run(&[&cut[..], &["--text"]].concat());
+    assert_eq!((ran.out(), ran.status), ("", Some(1)));
+    assert!(
+        ran.error.contains("\n  at cut.bin: byte 13, byte "),
+        "{ran:?}"
+    );
 }
 
 #[test]
@@ -140,6 +207,10 @@ fn sizes_have_to_make_sense() {
     let help = "\n`muntyzhap help dis` says how to use it";
     let cases = [
         (&["--principals=3"][..], "--principals and --slots go with --programme-only"),
+        (
+            &["--programme-only", "--block=lab=y"],
+            "--block and --programme-only do not go together: the regions' names are the store's, which --store gives",
+        ),
         (&["--programme-only", "--principals=0"], "--principals: it is 1 to 32"),
         (&["--programme-only", "--slots=257"], "--slots: it is 0 to 256"),
         (

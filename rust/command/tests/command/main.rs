@@ -4,11 +4,13 @@
 
 mod assembling;
 mod blocks;
+mod damaged;
 mod desk;
 mod explaining;
 mod failing;
 mod helping;
 mod journals;
+mod keeping;
 mod listing;
 mod resuming;
 mod running;

@@ -138,6 +138,10 @@ fn plain_is_what_the_printing_program_prints() {
 fn plain_has_the_printing_programs_journal() {
     let desk = Desk::with("counting.mz", COUNTING);
     let ran = desk.run(&["run", "counting.mz", "--plain"]);
+    let note =
+        "the journal is full: the printing program lends 512 entries; --entries N lends more\n";
+    ran.is(1, "end 18 block 0 at 23 steps 1025\n", note);
+    let ran = desk.run(&["run", "counting.mz", "--plain", "--entries=512"]);
     ran.is(1, "end 18 block 0 at 23 steps 1025\n", "");
     let ran = desk.run(&["run", "counting.mz", "--plain", "--entries=1000"]);
     ran.is(

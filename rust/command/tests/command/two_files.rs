@@ -90,6 +90,10 @@ fn places_are_those_of_the_programmes_file() {
 fn sheets_that_stand_the_wrong_way_round_are_refused() {
     let ran = desk().run(&["run", "programme.bin", "store.bin"]);
     ran.says(1, "refused by ");
+    ran.says(
+        1,
+        "\n  store.bin is a good store sheet, and programme.bin a good programme sheet for it: give the store first\n",
+    );
 }
 
 #[test]
@@ -100,6 +104,10 @@ fn what_is_missing_or_double_is_told() {
         (
             &["store.mz"][..],
             "store.mz has no programme, only a store: give the file with the programme too",
+        ),
+        (
+            &["store.bin"],
+            "store.bin ends after its store sheet, and has no programme: give the file with the programme too",
         ),
         (
             &["numbers.mz"],
@@ -184,22 +192,58 @@ fn names_of_a_programme_have_to_be_the_stores() {
 #[test]
 fn damaged_sheets_of_two_files_are_told_with_how_to_list_them() {
     let desk = desk();
-    for (part, listed) in [
-        ("store", "damaged.bin"),
-        ("programme", "damaged.bin --programme-only"),
-    ] {
-        let mut sheet = desk.read(&format!("{part}.bin"));
+    let cut = |mut sheet: Vec<u8>| {
         sheet.pop();
-        desk.put("damaged.bin", sheet);
-        let files = match part {
-            "store" => ["damaged.bin", "programme.bin"],
-            _ => ["store.bin", "damaged.bin"],
-        };
-        let ran = desk.run(&["run", files[0], files[1]]);
+        sheet
+    };
+    // The first block's region is one that the store has not.
+    let region = |mut sheet: Vec<u8>| {
+        sheet[3] = 9;
+        sheet
+    };
+    type Damage = fn(Vec<u8>) -> Vec<u8>;
+    let cases: [(&str, Damage, [&str; 2], &str); 3] = [
+        (
+            "store.bin",
+            cut,
+            ["damaged.bin", "programme.bin"],
+            "damaged.bin",
+        ),
+        (
+            "programme.bin",
+            cut,
+            ["store.bin", "damaged.bin"],
+            "damaged.bin --store store.bin",
+        ),
+        (
+            "programme.bin",
+            region,
+            ["store.bin", "damaged.bin"],
+            "damaged.bin --store store.bin",
+        ),
+    ];
+    for (sheet, damaged, [store, programme], listed) in cases {
+        desk.put("damaged.bin", damaged(desk.read(sheet)));
+        let ran = desk.run(&["run", store, programme]);
         let hint = format!("\n  `muntyzhap dis {listed}` lists the sheets\n");
         ran.says(1, &hint);
         let arguments: Vec<&str> = ["dis"].into_iter().chain(listed.split(' ')).collect();
         let number = ran.out().split(':').next().unwrap_or_default();
         desk.run(&arguments).says(1, &format!("<-- {number}: "));
     }
+}
+
+/// Else a block of p1 would run as whoever has that number in the store.
+#[test]
+fn numbers_of_a_programme_have_to_be_the_stores() {
+    let desk = Desk::with("store.mz", "principals p1 < p0\nslot s0 : p0 = 2\n");
+    desk.put("numbers.mz", "block p1 { s0 := 99 }\n");
+    let told = "muntyzhap: numbers.mz declares no principals and slots, so p1 is principal 1 there, and in store.mz it is \
+                principal 0: declare them in numbers.mz as well, without values\n";
+    desk.run(&["run", "store.mz", "numbers.mz"]).is(2, "", told);
+    desk.put("store.mz", "principals p0 < p1\nslot s1 : p1 = 2\n");
+    let told = told.replace("p1 is principal 1", "s1 is slot 1");
+    let told = told.replace("it is principal 0", "it is slot 0");
+    desk.run(&["run", "store.mz", "numbers.mz"])
+        .is(2, "", &told);
 }

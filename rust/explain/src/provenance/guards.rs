@@ -1,5 +1,6 @@
 //! The guards that a branch's label came from.
 
+use model::{Expression, Form, Value};
 use second_runner::{Guarding, Part, Stopped};
 
 use crate::scene::Scene;
@@ -38,4 +39,42 @@ fn told(scene: &Scene, block: usize, guarding: &Guarding, is_low: impl Fn(u8) ->
         None => "judged in an earlier stretch".to_string(),
     };
     format!("in the {part} of `{text}` at {place}, {source}")
+}
+
+/// The owners and slots of all that the open guards read. Of a guard of an earlier
+/// stretch these are the slots that it names; none if it reads others too.
+pub fn reads(scene: &Scene, stopped: &Stopped) -> Option<Vec<(u8, usize)>> {
+    let mut reads = vec![];
+    for guarding in &stopped.guards {
+        match &guarding.guard {
+            Some(guard) => reads.extend(guard.reads.iter().map(|read| (read.owner, read.slot))),
+            None => {
+                let command = scene.command(stopped.block, guarding.offset)?;
+                let (Form::If { guard, .. } | Form::While { guard, .. }) = &command.form else {
+                    return None;
+                };
+                named(scene, guard, &mut reads)?;
+            }
+        }
+    }
+    Some(reads)
+}
+
+/// The slots that an expression reads by their names; none if it reads others too.
+fn named(scene: &Scene, of: &Expression, reads: &mut Vec<(u8, usize)>) -> Option<()> {
+    match of {
+        Expression::Literal(_) => Some(()),
+        Expression::Read(view) => match **view {
+            Expression::Literal(Value::ReadView(slot)) => {
+                let slot = usize::from(slot);
+                reads.push((*scene.owners.get(slot)?, slot));
+                Some(())
+            }
+            _ => None,
+        },
+        Expression::Operation(_, left, right) => {
+            named(scene, left, reads)?;
+            named(scene, right, reads)
+        }
+    }
 }

@@ -68,6 +68,11 @@ impl Text {
 
     /// The same of a run that is paused after so many steps and carried on.
     pub fn refusal_after_pause(&self, rule: Rule, at: u32) -> String {
+        self.refusal_carried_on(rule, at, AMPLE)
+    }
+
+    /// The same with another budget from then on.
+    pub fn refusal_carried_on(&self, rule: Rule, at: u32, budget: u32) -> String {
         let (store, programme, number) = (&self.store, &self.programme, rule.number());
         let lend = || (self.output(), vec![0; Checkpoint::PAUSE_BYTES]);
         let ((mut old, mut from), (mut output, mut pause)) = (lend(), lend());
@@ -76,7 +81,7 @@ impl Text {
         assert_eq!((paused.answer.number, paused.answer.steps), (17, at));
         let (output, pause) = (&mut output, &mut pause);
         let told = carry_on_told(
-            store, programme, number, AMPLE, &old, &from, output, pause, each,
+            store, programme, number, budget, &old, &from, output, pause, each,
         );
         self.on_scene(rule, |scene| explain::refusal(scene, &told))
     }

@@ -5,7 +5,7 @@ use model::{Block, Code, Floor};
 use super::{Parsed, Parser};
 use crate::error::Told;
 use crate::scope::{Name, Sort};
-use crate::token::{quoted, Kind};
+use crate::token::{cut, quoted, Kind};
 use crate::word::Word;
 use crate::NO_FLOOR;
 
@@ -46,23 +46,19 @@ impl<'t> Parser<'_, 't> {
 
     fn head(&mut self) -> Parsed<Head<'t>> {
         let first = self.name("the block's region (a principal)")?;
-        let (name, region) = match self.cursor.take_sign(":") {
-            None => (None, first),
-            Some(_) => (
-                Some(first),
-                self.name("the block's region (a principal) after `:`")?,
-            ),
+        let is_first_joined = self.hyphen(first);
+        let (name, region, is_joined) = match self.cursor.take_sign(":") {
+            None => (None, first, is_first_joined),
+            Some(_) => {
+                let region = self.name("the block's region (a principal) after `:`")?;
+                let name = Some(first).filter(|_| !is_first_joined);
+                (name, region, self.hyphen(region))
+            }
         };
-        let region_byte = self.scope.byte(Sort::Principal, region, self.errors);
-        let other = name.filter(|name| name.text != region.text);
-        if let Some(name) = other.filter(|name| self.is_principal(name.text)) {
-            let message = format!(
-                "a block of {} can't be called {}, which is another principal",
-                quoted(region.text),
-                quoted(name.text)
-            );
-            self.tell(name.place, message);
-        }
+        let region_byte = match is_joined {
+            true => 0,
+            false => self.region(name, region),
+        };
         let floor = self.floor()?;
         if !self.cursor.peek().is("{") {
             return Err(self.expected("`{`"));
@@ -72,6 +68,29 @@ impl<'t> Parser<'_, 't> {
             region: region_byte,
             floor,
         })
+    }
+
+    /// The byte of a region. A block's own name that is another principal's is told.
+    fn region(&mut self, name: Option<Name>, region: Name) -> u8 {
+        let other = name.filter(|name| name.text != region.text);
+        let other = other.filter(|name| self.is_principal(name.text));
+        let Some(name) = other else {
+            return self.scope.byte(Sort::Principal, region, self.errors);
+        };
+        let (region_shown, name_shown) = (quoted(region.text), quoted(name.text));
+        if self.is_principal(region.text) {
+            let message = format!(
+                "a block of {region_shown} can't be called {name_shown}, which is another principal"
+            );
+            self.tell(name.place, message);
+        } else if !self.scope.principals.incomplete {
+            let meant = format!("block {} : {}", cut(region.text), cut(name.text));
+            let message = format!("there is no principal {region_shown}: did you mean `{meant}`?");
+            self.tell(region.place, message);
+        }
+        self.scope
+            .number(Sort::Principal, region.text)
+            .map_or(0, |number| u8::try_from(number).unwrap_or(u8::MAX))
     }
 
     fn is_principal(&self, name: &str) -> bool {

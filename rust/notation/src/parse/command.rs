@@ -5,6 +5,7 @@ use muntyzhap::code::{MOST_COMMANDS, MOST_DEPTH};
 use muntyzhap::Value;
 
 use super::{Parsed, Parser, MOST_OPEN};
+use crate::scope::Name;
 use crate::token::{Kind, Token};
 use crate::word::Word;
 
@@ -134,6 +135,10 @@ impl<'t> Parser<'_, 't> {
             );
         };
         let target = target?;
+        if let Kind::Name(text) = first.kind {
+            let place = first.place;
+            self.hyphen(Name { text, place });
+        }
         let sign = self.cursor.peek();
         if sign.is("=") || sign.is("==") {
             let message = format!("an assignment is written with `:=`, not {}", sign.shown());

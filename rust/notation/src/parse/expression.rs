@@ -63,9 +63,9 @@ impl Parser<'_, '_> {
         let mut compared = 0;
         loop {
             let token = self.cursor.peek();
-            // Such a sign is told already: what is around it is read on.
-            if token.kind == Kind::Wrong {
-                self.cursor.take();
+            // Such a sign or word is told: what is around it is read on.
+            let is_told = token.kind == Kind::Wrong && self.cursor.take().kind == token.kind;
+            if is_told || self.and_or() {
                 left = self.sum()?;
                 compared = 0;
                 continue;
@@ -113,6 +113,9 @@ impl Parser<'_, '_> {
     fn part(&mut self) -> Parsed<Part> {
         if let Some(value) = self.value() {
             return value.map(Part::literal);
+        }
+        if self.not() {
+            return self.bounded(Parser::part);
         }
         let token = self.cursor.peek();
         match token.kind {

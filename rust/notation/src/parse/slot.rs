@@ -84,7 +84,7 @@ impl Parser<'_, '_> {
                 self.cursor.take();
                 Some(self.view(word))
             }
-            _ => None,
+            _ => self.other_truth().map(Ok),
         }
     }
 
