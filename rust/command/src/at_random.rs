@@ -5,7 +5,7 @@ use crate::call::{held, Call, Came, Way, FINISHED};
 use crate::carried;
 use crate::checkpoint::{Kept, Paused, SheetStarts};
 use crate::job::Job;
-use crate::reasons;
+use crate::reasons::{self, Around};
 
 const TEXTS: [&str; 4] = [
     "principals nobody < digA, digB < lab slot place : digA = write result slot result : digA = 0\n\
@@ -88,7 +88,7 @@ fn judged(job: &Job, call: &Call) -> Came {
     let (second, told) = call.by_second(&mut |_| ());
     assert_eq!(held(&came, &second), Ok(()));
     if came.answer.number != FINISHED {
-        let text = reasons::refusal(job, call, &came, &told).expect("a reason");
+        let text = reasons::refusal(job, call, &came, &told, Around::default()).expect("a reason");
         let head = format!("refused by {}: ", came.answer.number);
         assert!(text.starts_with(&head) && text.ends_with('\n'), "{text}");
         assert!(text.lines().count() > 1, "{text}");

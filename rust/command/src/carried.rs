@@ -7,12 +7,10 @@ use model::order::at_or_below;
 use model::{count, Code, Command, Form, Names, Store};
 use muntyzhap::code::MOST_DEPTH;
 use muntyzhap::sheet::Slot;
-use muntyzhap::{Checkpoint, Rule, Value, MOST_BUDGET};
+use muntyzhap::{Checkpoint, Value};
 
-use crate::call::Call;
 use crate::checkpoint::Paused;
 use crate::job::Job;
-use crate::setup::Resumed;
 use crate::table::there_are;
 
 /// What is wrong with a checkpoint for these sheets, which are good.
@@ -38,33 +36,6 @@ pub fn faults(job: &Job, paused: &Paused) -> Vec<String> {
         .into_iter()
         .map(|fault| format!("in the checkpoint {fault}"));
     told.collect()
-}
-
-/// The text of a refusal, with the checkpoint file named where it has a part in it:
-/// its lengths (12) or what it holds (19), or a rule or budget of its own (11).
-pub fn with_file(text: &str, resumed: &Resumed, call: &Call, number: u32) -> String {
-    let file = &resumed.file;
-    match number {
-        12 | 19 => {
-            let (head, lines) = text.split_once('\n').unwrap_or((text, ""));
-            format!(
-                "{head}\n  at {file}, the checkpoint to carry on from\n{lines}  \
-                 What to do: take an older checkpoint, or start anew.\n"
-            )
-        }
-        11 => {
-            let rule = resumed.gives_rule && Rule::from_number(call.rule).is_none();
-            let budget = resumed.gives_budget && call.budget > MOST_BUDGET;
-            let own = [(rule, "rule"), (budget, "budget")].into_iter();
-            let own = own.filter(|(own, _)| *own).map(|(_, what)| {
-                format!(
-                    "  the {what} comes from the checkpoint {file}: give another with --{what}\n"
-                )
-            });
-            text.to_string() + &own.collect::<String>()
-        }
-        _ => text.to_string(),
-    }
 }
 
 /// The path of a pause sheet: its block, and of each command open around the next

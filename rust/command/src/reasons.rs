@@ -14,6 +14,7 @@ use crate::checkpoint::Paused;
 use crate::ending::Failure;
 use crate::job::Job;
 use crate::settings::RULES;
+use crate::setup::Resumed;
 use crate::sources::Bytes;
 
 /// What texts about steps need to know of a run's sheets.
@@ -42,14 +43,14 @@ impl Known<'_> {
     }
 
     pub fn step(&self, step: &Step) -> String {
-        self.with_scene(|scene| explain::step(scene, step))
+        self.with_scene(false, |scene| explain::step(scene, step))
     }
 
-    fn refusal(&self, told: &Told) -> String {
-        self.with_scene(|scene| explain::refusal(scene, told))
+    fn refusal(&self, told: &Told, paused: bool) -> String {
+        self.with_scene(paused, |scene| explain::refusal(scene, told))
     }
 
-    fn with_scene(&self, tell: impl FnOnce(&Scene) -> String) -> String {
+    fn with_scene(&self, paused: bool, tell: impl FnOnce(&Scene) -> String) -> String {
         let place = |block, offset| self.job.place(block, offset);
         tell(&Scene {
             names: &self.job.names,
@@ -58,6 +59,7 @@ impl Known<'_> {
             blocks: &self.blocks,
             place: &place,
             rule: self.rule,
+            paused,
         })
     }
 
@@ -80,34 +82,53 @@ impl Known<'_> {
     }
 }
 
+/// What a call has around it: the checkpoint file that it is carried on from, and
+/// whether a spent budget is a pause, which is kept.
+#[derive(Clone, Copy, Default)]
+pub struct Around<'a> {
+    pub resumed: Option<&'a Resumed>,
+    pub paused: bool,
+}
+
 /// Why a call was refused, in lines, the last one ended too.
-pub fn refusal(job: &Job, call: &Call, came: &Came, told: &Told) -> Result<String, Failure> {
-    let number = came.answer.number;
-    if (13..=18).contains(&number) {
-        let text = Known::of(job, call.rule).refusal(told);
-        return Ok(format!("{}\n{}", text.trim_end(), by_option(number)));
-    }
+pub fn refusal(
+    job: &Job,
+    call: &Call,
+    came: &Came,
+    told: &Told,
+    around: Around,
+) -> Result<String, Failure> {
     let Some(refusal) = Refusal::from_answer(came.answer) else {
         return Ok(String::new());
     };
-    let lines = match number {
-        1..=5 => store_reason(job, came)?,
-        6..=10 => programme_reason(job, came)?,
-        11 => arguments(call),
-        12 | 19 => checkpoint_reason(job, call, number),
-        _ => vec![],
+    let lines = match refusal {
+        Refusal::StoreLength
+        | Refusal::StoreLimits
+        | Refusal::OrderTable
+        | Refusal::Owner
+        | Refusal::Value => store_reason(job, came)?,
+        Refusal::ProgrammeLength | Refusal::ProgrammeLimits | Refusal::Region => {
+            programme_reason(job, came, None)?
+        }
+        Refusal::IllFormedCode(place) | Refusal::NestedTooDeep(place) => {
+            programme_reason(job, came, Some(place))?
+        }
+        Refusal::Arguments => arguments(call, around.resumed),
+        Refusal::OutputLength | Refusal::Checkpoint => {
+            checkpoint_reason(job, call, &refusal, around.resumed)
+        }
+        Refusal::JournalFull(_) => {
+            let text = Known::of(job, call.rule).refusal(told, around.paused);
+            return Ok(text + "\n  Without --entries the journal is long enough.\n");
+        }
+        _ => {
+            let text = Known::of(job, call.rule).refusal(told, around.paused);
+            return Ok(text + "\n");
+        }
     };
-    let head = format!("refused by {number}: {}\n", refusal.meaning());
+    let head = format!("refused by {}: {}\n", refusal.number(), refusal.meaning());
     let lines = lines.iter().map(|line| format!("  {line}\n"));
     Ok(head + &lines.collect::<String>())
-}
-
-/// Which option has a say in a refusal that the command itself need not come to.
-fn by_option(number: u32) -> &'static str {
-    match number {
-        18 => "  Without --entries the journal is long enough.\n",
-        _ => "",
-    }
 }
 
 fn store_reason(job: &Job, came: &Came) -> Result<Vec<String>, Failure> {
@@ -118,7 +139,8 @@ fn store_reason(job: &Job, came: &Came) -> Result<Vec<String>, Failure> {
     Ok(lines)
 }
 
-fn programme_reason(job: &Job, came: &Came) -> Result<Vec<String>, Failure> {
+/// With the place of a byte in its code, where that is what was refused.
+fn programme_reason(job: &Job, came: &Came, place: Option<Place>) -> Result<Vec<String>, Failure> {
     let sizes = job.store_read().sizes;
     let (principals, slots) = sizes.map_or((MOST_PRINCIPALS, MOST_SLOTS), |sizes| {
         (sizes.principals, sizes.slots)
@@ -126,13 +148,12 @@ fn programme_reason(job: &Job, came: &Came) -> Result<Vec<String>, Failure> {
     let read = inspect::programme(&job.programme, principals, slots, &job.names);
     let source = job.sources.programme.as_ref();
     let mut lines = sheet_reason("programme", source, read.refused, came)?;
-    if matches!(came.answer.number, 9 | 10) {
-        let (block, offset) = (came.answer.block, came.answer.offset);
-        let (place, region) = (job.place(block, offset), region(job, block));
-        let at =
-            format!("at {place}, in the programme sheet: block {block}{region}, offset {offset}");
-        lines[0] = at;
-        lines.extend(last_command(job, &read.items, Place { block, offset }));
+    if let Some(place) = place {
+        let Place { block, offset } = place;
+        let (at, region) = (job.place(block, offset), region(job, block));
+        lines[0] =
+            format!("at {at}, in the programme sheet: block {block}{region}, offset {offset}");
+        lines.extend(last_command(job, &read.items, place));
     }
     lines.extend(job.sources.programme_listed().map(listed));
     Ok(lines)
@@ -195,7 +216,12 @@ fn listed(arguments: String) -> String {
 }
 
 /// "rule not 0, 1, 2, 3 or 255, or budget above 1,000,000"
-fn arguments(call: &Call) -> Vec<String> {
+fn arguments(call: &Call, resumed: Option<&Resumed>) -> Vec<String> {
+    let gives = |gives: fn(&Resumed) -> bool| resumed.filter(|resumed| gives(resumed));
+    let from = |resumed: &Resumed, what: &str| {
+        let file = &resumed.file;
+        format!("the {what} comes from the checkpoint {file}: give another with --{what}")
+    };
     let mut lines = vec![];
     if Rule::from_number(call.rule).is_none() {
         let rules = RULES.map(|(name, rule)| format!("{} ({name})", rule.number()));
@@ -204,25 +230,38 @@ fn arguments(call: &Call) -> Vec<String> {
             call.rule,
             rules.join(", ")
         ));
+        let own = gives(|resumed| resumed.gives_rule);
+        lines.extend(own.map(|resumed| from(resumed, "rule")));
     }
     if call.budget > MOST_BUDGET {
         lines.push(format!(
             "the budget is {}, and the largest is {MOST_BUDGET}",
             call.budget
         ));
+        let own = gives(|resumed| resumed.gives_budget);
+        lines.extend(own.map(|resumed| from(resumed, "budget")));
     }
     lines
 }
 
 /// What is wrong with a checkpoint: its lengths (12) or what it holds (19).
-fn checkpoint_reason(job: &Job, call: &Call, number: u32) -> Vec<String> {
+fn checkpoint_reason(
+    job: &Job,
+    call: &Call,
+    refusal: &Refusal,
+    resumed: Option<&Resumed>,
+) -> Vec<String> {
     let Way::Stretch(Some(paused)) = call.way else {
         return vec![];
     };
-    match number {
-        12 => lengths(job, paused),
+    let at = resumed.map(|resumed| format!("at {}, the checkpoint to carry on from", resumed.file));
+    let mut lines: Vec<String> = at.into_iter().collect();
+    lines.extend(match refusal {
+        Refusal::OutputLength => lengths(job, paused),
         _ => carried::faults(job, paused),
-    }
+    });
+    lines.push("What to do: take an older checkpoint, or start anew.".to_string());
+    lines
 }
 
 fn lengths(job: &Job, paused: &Paused) -> Vec<String> {

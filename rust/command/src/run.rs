@@ -4,12 +4,11 @@ use model::count;
 use muntyzhap::sheet::end_store;
 
 use crate::call::{held, Call, Came, Way};
-use crate::carried;
 use crate::ending::{Ended, Failure, Status};
 use crate::job::Job;
 use crate::options::Given;
 use crate::plain::{self, LENT_ENTRIES};
-use crate::reasons::{self, Known};
+use crate::reasons::{self, Around, Known};
 use crate::settings::Settings;
 use crate::setup::Setup;
 use crate::slices;
@@ -69,19 +68,17 @@ pub fn answer(setup: &Setup, call: &Call, came: &Came, streams: &mut Streams) ->
         streams.say(&finished(&setup.job, came))?;
         return Ok(Status::Done);
     }
-    streams.say(&refused(setup, call, came)?)?;
+    streams.say(&refused(setup, call, came, false)?)?;
     Ok(Status::Refused)
 }
 
-/// Why a run was refused, in lines.
-pub fn refused(setup: &Setup, call: &Call, came: &Came) -> Result<String, Failure> {
+/// Why a run was refused, in lines, or why it was paused and kept.
+pub fn refused(setup: &Setup, call: &Call, came: &Came, paused: bool) -> Result<String, Failure> {
     let (second, told) = call.by_second(&mut |_| ());
     held(came, &second)?;
-    let text = reasons::refusal(&setup.job, call, came, &told)?;
-    Ok(match &setup.resumed {
-        Some(resumed) => carried::with_file(&text, resumed, call, came.answer.number),
-        None => text,
-    })
+    let resumed = setup.resumed.as_ref();
+    let around = Around { resumed, paused };
+    reasons::refusal(&setup.job, call, came, &told, around)
 }
 
 /// What the printing program prints. It is given both sheets in one, and splits

@@ -81,8 +81,7 @@ impl Pausable<'_> {
         }
         // What is kept is safe before anything else can fail.
         let kept = self.keep(came);
-        let text = refused(setup, &whole, came)?;
-        streams.say(&if kept.is_ok() { paused(&text) } else { text })?;
+        streams.say(&refused(setup, &whole, came, kept.is_ok())?)?;
         kept?;
         let steps = came.answer.steps;
         streams.say(&match steps < MOST_BUDGET {
@@ -120,18 +119,6 @@ impl Pausable<'_> {
             other => other,
         })
     }
-}
-
-/// The text of a spent budget, where a checkpoint was written: what to do then is
-/// to carry on, which is said after it.
-fn paused(text: &str) -> String {
-    let text = match text.strip_prefix("refused by ") {
-        Some(rest) => format!("paused by {rest}"),
-        None => text.to_string(),
-    };
-    let advice = |line: &&str| line.starts_with("  What to do: ") && line.contains("in slices and");
-    let lines = text.lines().filter(|line| !advice(line));
-    lines.map(|line| format!("{line}\n")).collect()
 }
 
 #[cfg(test)]

@@ -30,7 +30,7 @@ pub fn refusal(scene: &Scene, told: &Told) -> String {
         return other(told.answer);
     };
     let mut lines = vec![
-        title(told.answer.number, &stopped.why),
+        title(scene, told.answer.number, &stopped.why),
         place(scene, stopped),
     ];
     lines.extend(reasons(scene, stopped));
@@ -94,7 +94,7 @@ fn other(answer: Answer) -> String {
     }
 }
 
-fn title(number: u32, why: &Why) -> String {
+fn title(scene: &Scene, number: u32, why: &Why) -> String {
     let meaning = match why {
         Why::WrongKind { .. } => "wrong kind",
         Why::NoAuthority { .. } => "no authority",
@@ -103,7 +103,11 @@ fn title(number: u32, why: &Why) -> String {
         Why::BudgetSpent { .. } => "budget spent",
         Why::JournalFull { .. } => "journal full",
     };
-    format!("refused by {number}: {meaning}")
+    let came = match why {
+        Why::BudgetSpent { .. } if scene.paused => "paused",
+        _ => "refused",
+    };
+    format!("{came} by {number}: {meaning}")
 }
 
 /// Which line, block and command, after how many steps.

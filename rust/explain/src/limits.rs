@@ -12,20 +12,30 @@ pub fn budget_spent(scene: &Scene, stopped: &Stopped, budget: u32) -> Vec<String
     if in_while(scene, stopped) {
         lines.push("  It is in a while: if that never ends, no budget is enough.".to_string());
     }
-    let larger = match stopped.steps > budget {
-        true => format!("budget above {}", stopped.steps),
+    let more = budget.max(stopped.steps) < MOST_BUDGET;
+    if !(scene.paused && more) {
+        lines.push(format!(
+            "  What to do: {}.",
+            to_do(stopped.steps, budget, more)
+        ));
+    }
+    lines
+}
+
+fn to_do(steps: u32, budget: u32, more: bool) -> String {
+    let larger = match steps > budget {
+        true => format!("budget above {steps}"),
         false => "larger budget".to_string(),
     };
-    lines.push(match budget.max(stopped.steps) < MOST_BUDGET {
+    match more {
         true => format!(
-            "  What to do: give a {larger}, up to {MOST_BUDGET} steps, or run in slices and carry on from the checkpoint."
+            "give a {larger}, up to {MOST_BUDGET} steps, or run in slices and carry on from the checkpoint"
         ),
         false => format!(
-            "  What to do: no run does more than {MOST_BUDGET} steps, in slices or not: let the blocks do less, or split \
-             the work into runs of their own."
+            "no run does more than {MOST_BUDGET} steps, in slices or not: let the blocks do less, or split the work into \
+             runs of their own"
         ),
-    });
-    lines
+    }
 }
 
 /// A run that is carried on may have done more steps than its new budget has.

@@ -20,6 +20,9 @@ pub struct Scene<'a> {
     pub place: &'a dyn Fn(usize, usize) -> String,
     /// The rule set that was run under.
     pub rule: Rule,
+    /// A spent budget is a pause here: where the run stands is kept, and whoever
+    /// shows the text says how to carry on.
+    pub paused: bool,
 }
 
 impl Scene<'_> {

@@ -67,6 +67,7 @@ fn scene<'a>(parts: &Parts, names: &'a Names, owners: &'a [u8], blocks: &'a [Blo
         blocks,
         place: &place,
         rule: Rule::from_number(parts.rule).expect("a rule"),
+        paused: false,
     }
 }
 

@@ -185,6 +185,26 @@ runs of their own."
     );
 }
 
+/// What to do then is said by whoever keeps the checkpoint, unless no budget is enough.
+#[test]
+fn a_spent_budget_that_is_a_pause_is_told_as_one() {
+    let counting = with_block("block lab { while true { curve := curve + 1 } }").paused();
+    assert_eq!(
+        counting.refusal_within(Rule::FullProvenance, 1, 1),
+        "\
+paused by 17: budget spent
+  at deputy.mz:5:26, block 0 (region lab), offset 11, after 1 step: curve := curve + 1
+  The budget is 1 step; 1 step is done, and this command needs one more.
+  It is in a while: if that never ends, no budget is enough."
+    );
+    let most = MOST_BUDGET as usize;
+    let spent = counting.refusal_within(Rule::FullProvenance, MOST_BUDGET, most);
+    assert!(spent.starts_with("paused by 17: "), "{spent}");
+    assert!(spent.contains("What to do: no run does more"), "{spent}");
+    let full = counting.refusal_within(Rule::FullProvenance, 9, 0);
+    assert!(full.starts_with("refused by 18: "), "{full}");
+}
+
 /// A run that is carried on with a budget that it has passed.
 #[test]
 fn a_budget_includes_the_steps_so_far() {

@@ -20,6 +20,8 @@ pub struct Text {
     names: Names,
     places: notation::Places,
     models: (Store, Programme),
+    /// Whether a spent budget is told as a pause.
+    paused: bool,
 }
 
 pub fn text(text: &str) -> Text {
@@ -35,10 +37,19 @@ pub fn text(text: &str) -> Text {
         programme,
         names: assembled.names,
         places: assembled.places,
+        paused: false,
     }
 }
 
 impl Text {
+    /// The same, in which a spent budget is a pause.
+    pub fn paused(self) -> Text {
+        Text {
+            paused: true,
+            ..self
+        }
+    }
+
     fn output(&self) -> Vec<u8> {
         vec![0; muntyzhap::sheet::output_bytes(&self.store)]
     }
@@ -112,6 +123,7 @@ impl Text {
             blocks: &programme.blocks,
             place: &place,
             rule,
+            paused: self.paused,
         })
     }
 }
