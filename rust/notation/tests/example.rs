@@ -88,7 +88,7 @@ fn indented(document: &str) -> Vec<String> {
 #[test]
 fn the_document_has_the_example_and_the_errors_as_they_are() {
     let parts = indented(&document());
-    let [example, grammar, bad, session] = parts.as_slice() else {
+    let [example, grammar, bad, shown] = parts.as_slice() else {
         panic!("{parts:?}");
     };
     assert!(grammar.starts_with("text "));
@@ -97,7 +97,7 @@ fn the_document_has_the_example_and_the_errors_as_they_are() {
     assert_eq!((one.store, one.programme), (other.store, other.programme));
     let told = assemble(bad).expect_err("a bad text").into_iter();
     let told: String = told.map(|error| format!("bad.mz:{error}\n")).collect();
-    assert!(!told.is_empty() && session.contains(&told), "{session}");
+    assert!(!told.is_empty() && shown.contains(&told), "{shown}");
 }
 
 #[test]
