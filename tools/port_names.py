@@ -19,7 +19,7 @@ DECLARED = re.compile(
 )
 
 # Lemmas whose new spelling is that of a definition, or of another lemma in reach.
-LAWS = """body-length number-bytes can-finish rows-bytes play-all step-at journal-of payload-of child-in in-region got-value operation-byte expr-by
+LAWS = """bit-and body-length number-bytes can-finish rows-bytes play-all step-at journal-of payload-of child-in in-region got-value operation-byte expr-by
 body-by takes-up value-good expr-too-deep steps-at may-hold values-at slot-checked sheet-checked table-ok output-good unused-at block-read row-at
 position-of meet-of""".split()
 # Lemmas that are spelled so already and would meet a definition's new name, each with the files that mean the lemma.

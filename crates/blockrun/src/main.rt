@@ -1,4 +1,6 @@
 // The printing program: reads standard input, and writes what is printed of it, at once. A stream that fails is told of on standard error.
+#![tactic(auto)]
+
 ghost use Rattle.std.specs.Prelude.{◌+◌, ◌≤◌, length};
 
 use printing::{Input, Text};

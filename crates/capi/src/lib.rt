@@ -1,5 +1,7 @@
 // Calls for C and Rust. A slice, of bytes or of a journal's entries, is passed as a pointer and a length: how many of them there are. An answer is
 // returned as a struct.
+#![tactic(auto)]
+
 ghost use Rattle.std.specs.Prelude.{◌≡◌, length};
 ghost use Rattle.values.specs.Result.{refusal_of};
 ghost use Rattle.store.specs.Sheet.{store_sheet, table_sheet};

@@ -1,1 +1,2 @@
 // What isolation means: demand 3. Definitions in specs/, theorems in proofs/; no code.
+#![tactic(auto)]

@@ -7,7 +7,7 @@ use Rattle.lattice.specs.Tests.{◌and◌}
 use Rattle.lattice.specs.declared.Table.{Table}
 use Rattle.lattice.specs.Order.{Label, bit, below, good, meet}
 use Rattle.lattice.specs.HeldLabels.{LabelHeld}
-use Rattle.lattice.proofs.OrderBits.{bit_and}
+use Rattle.lattice.proofs.OrderBits.{bit_of_and}
 use Rattle.lattice.proofs.Order.{meet_lt, mask_meet}
 
 module _ (t : Table) {l : Label} {x : ℕ} (h : LabelHeld t l x) where
@@ -17,7 +17,7 @@ module _ (t : Table) {l : Label} {x : ℕ} (h : LabelHeld t l x) where
 
 module _ (t : Table) {l m : Label} {x y : ℕ} (h : LabelHeld t l x) (k : LabelHeld t m y) where
   pub bits_held : (o : Label) → bit (bit_and x y) o ≡ below t o l and below t o m
-  bits_held o = bit_and x y o ∙ ap₂ (λ (b c : Bool). b and c) (bit_held t h o) (bit_held t k o)
+  bits_held o = bit_of_and x y o ∙ ap₂ (λ (b c : Bool). b and c) (bit_held t h o) (bit_held t k o)
 
   -- the meet of two labels is held as the conjunction of their masks
   pub meet_held : good t ≡ true → LabelHeld t (meet t l m) (bit_and x y)

@@ -11,7 +11,7 @@ use Rattle.lattice.specs.declared.Table.{Table}
 use Rattle.lattice.specs.Order.{Label, mask, bit, below, in_range, reflexive, antisymmetric, transitive, is_meet, has_meets, is_top, has_top, good, meet, top}
 use Rattle.lattice.specs.GoodTables.{Below, Meets, Good, GoodTables}
 use Rattle.lattice.proofs.Tests.{and_l, and_r, and_of, imp_at, imp_of, iff, every_at, every_of, some_at, some_of, find_at}
-use Rattle.lattice.proofs.OrderBits.{bit_and, same_bits, bit_ones}
+use Rattle.lattice.proofs.OrderBits.{bit_of_and, same_bits, bit_ones}
 
 module _ (t : Table) where
   meet_at : (i j k : Label) → is_meet t i j k ≡ true → Meets t i j k
@@ -69,7 +69,7 @@ module _ (t : Table) where
 
   -- bit l of the two masks' conjunction: l stands below both
   pub both_below : (i j l : Label) → bit (bit_and (mask t i) (mask t j)) l ≡ below t l i and below t l j
-  both_below i j l = bit_and (mask t i) (mask t j) l
+  both_below i j l = bit_of_and (mask t i) (mask t j) l
 
   pub and_small : (i j : Label) → mask t i < 2 ^ t.n → bit_and (mask t i) (mask t j) < 2 ^ t.n
   and_small i j h = lt_of_le_of_lt (and_le_l (mask t i) (mask t j)) h

@@ -27,9 +27,9 @@ low_and a b =
     ∙ digits_mod (bit_and (a / 2) (b / 2)) (lt_of_le_of_lt (min-le_left (a % 2) (b % 2)) (omega arith))
 
 -- bit j of `a & b`
-pub bit_and : (a b j : ℕ) → bit (bit_and a b) j ≡ bit a j and bit b j
+pub bit_of_and : (a b j : ℕ) → bit (bit_and a b) j ≡ bit a j and bit b j
 unfolding bit
-bit_and a b j =
+bit_of_and a b j =
     ap (λ (x : ℕ). eqb (x % 2) 1) (and_shr a b j) ∙ ap (λ (x : ℕ). eqb x 1) (low_and (a / 2 ^ j) (b / 2 ^ j))
     ∙ and_digit (a / 2 ^ j % 2) (b / 2 ^ j % 2) (omega arith) (omega arith)
 

@@ -1,4 +1,6 @@
 // Order tables. Definitions in specs/, laws in proofs/.
+#![tactic(auto)]
+
 ghost use Rattle.std.specs.Prelude.{◌≡◌, ◌<◌, ◌≤◌, ◌^◌, ◌-◌, min};
 ghost use Rattle.lattice.specs.Order.{most_principals, bit, good};
 ghost use Rattle.lattice.specs.Masks.{has_mask, pair_ok, meet_ok, row_ok, rows_ok, line_ok, table_ok};

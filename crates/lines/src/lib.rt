@@ -1,5 +1,7 @@
 // Numbers and lines as text: what is printed of an answer, a store sheet and an output, and the room that it takes. It stands beside the runner, not
 // above it: nothing is run here. Definitions in specs/, laws in proofs/.
+#![tactic(auto)]
+
 mod above;
 mod putting;
 

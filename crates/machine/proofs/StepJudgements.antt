@@ -10,7 +10,7 @@ use borrow.Author.Tests.{eq-eqb, ne_eqb, eqb-true}
 use Rattle.lattice.specs.Tests.{◌and◌, ◌or◌, ◌implies◌}
 use Rattle.lattice.specs.declared.Table.{Table}
 use Rattle.lattice.specs.Order.{Label, bit}
-use Rattle.lattice.proofs.OrderBits.{bit_and, bit_past}
+use Rattle.lattice.proofs.OrderBits.{bit_of_and, bit_past}
 use Rattle.values.specs.Result.{Result, ok, refuse, ◌>>=◌, require}
 use Rattle.values.specs.Value.{truth, write_view, is_write_view}
 use Rattle.values.proofs.Result.{Post, Any, post_ok, post_all, post_require, post_at, post_bind}
@@ -71,7 +71,7 @@ module _ (t : Table) (r : RuleSet) (x y b : Label) (m n c : ℕ) (tx : LabelHeld
 
   pub meet_three : judges_branch r ≡ true → bit (bit_and (bit_and m n) c) o ≡ all_above t o (labels_judged r x y b)
   unfolding all_above
-  meet_three q = rw (labels_three x y b r q) (bit_and (bit_and m n) c o ∙ rw (bits_held t tx ly o, bit_held t cb o) (all_three _ _ _))
+  meet_three q = rw (labels_three x y b r q) (bit_of_and (bit_and m n) c o ∙ rw (bits_held t tx ly o, bit_held t cb o) (all_three _ _ _))
 
 module _ (w : Setting) (terms : Terms) (masks : List ℕ) (h : Serves w terms masks) where
   -- refusal 16: no label is judged; else by the owner, or by the floor

@@ -1,4 +1,6 @@
 // The printing program's work, from the bytes that it reads to those that it prints. Definitions in specs/, laws in proofs/.
+#![tactic(auto)]
+
 mod lending;
 
 ghost use Rattle.std.specs.Prelude.{◌≡◌, ◌≤◌, length};

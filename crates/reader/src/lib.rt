@@ -1,5 +1,7 @@
 // The reader of code: it checks a block's code and compiles it while it does. For `programme`, which has made sure of what a part `requires`.
 // Definitions in specs/, laws in proofs/.
+#![tactic(auto)]
+
 mod code;
 mod expression;
 mod literals;

@@ -1,4 +1,6 @@
 // The runner: one call, from its arguments and sheets to its answer, output and journal. Definitions in specs/, laws in proofs/.
+#![tactic(auto)]
+
 ghost use Rattle.std.specs.Prelude.{◌≡◌, length};
 ghost use Rattle.syntax.specs.Rows.{tables_of};
 ghost use Rattle.calculus.specs.Run.{call, answer, output, journal as journalAfter};

@@ -1,4 +1,6 @@
 // The store sheet, the table sheet, and the store as the code holds it. Definitions in specs/, laws in proofs/.
+#![tactic(auto)]
+
 use lattice::Table;
 
 mod held;

@@ -1,4 +1,6 @@
 // The programme sheet and its code: what they say, and what they are compiled into. Definitions in specs/, laws in proofs/; no code.
+#![tactic(auto)]
+
 use values::Value;
 
 // What a block's entries in the sheet's arrays say, besides its length.

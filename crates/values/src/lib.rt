@@ -1,4 +1,6 @@
 // Bytes, numbers and values in them, integers, and what a call answers. Definitions in specs/, laws in proofs/.
+#![tactic(auto)]
+
 mod integers;
 mod kinds;
 mod number;

@@ -1,6 +1,8 @@
 // Plays a list of cases from standard input, and prints a line for each: its name, the answer of its call, and what output and pause buffer then hold.
 // The list is the number of cases (2 bytes) and the cases; specs/Cases.antt says what a case is. Of a list that is cut off or malformed a line
 // says so, and nothing more of it is read. Its last line is the number of cases, where all were played.
+#![tactic(auto)]
+
 ghost use Rattle.std.specs.Prelude.{◌≡◌, true, false, ◌≤◌, ◌<◌, length};
 ghost use Rattle.vectors.specs.Cases.{head_of, marked, body_length, most_output, most_body, Fits};
 

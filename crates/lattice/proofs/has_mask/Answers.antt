@@ -1,0 +1,22 @@
+use mathlib.Core.Path.{refl, sym}
+use borrow.Author.Tests.{eq-eqb, ne_eqb}
+use native.Mathlib.Omega.{arith}
+use Rattle.lattice.specs.Tests.{some}
+use Rattle.lattice.specs.Masks.{has_mask}
+use Rattle.lattice.proofs.Tests.{some_of, some_more, some_done}
+use Rattle.lattice.proofs.has_mask.Goals as goal
+
+pub loop-k-init : goal.loop-k-init
+unfolding some
+loop-k-init c = (omega arith, refl)
+
+pub returns-then-masks-k : goal.returns-then-masks-k
+unfolding has_mask
+returns-then-masks-k c = sym (some_of _ _ c.loop-k.k (omega arith) (eq-eqb _ _ c.if-masks-k.true))
+
+pub loop-k-preserved : goal.loop-k-preserved
+loop-k-preserved c = (omega arith, some_more _ _ c.loop-k.invariant.1 (ne_eqb _ _ c.if-masks-k.false))
+
+pub returns : goal.returns
+unfolding has_mask
+returns c = some_done _ _ _ (omega arith) (omega arith) c.loop-k.invariant.1

@@ -1,0 +1,37 @@
+use Rattle.std.proofs.Common.{◌≡◌, ℕ, ◌+◌, ◌-◌, ◌*◌, ◌^◌, ◌<◌, ◌≤◌, min, get_or, ◌∙◌, ap₂, ⊎_elim, arith}
+use Rattle.values.specs.Bytes.{number_at}
+use Rattle.values.proofs.BytesNumbers.{number_fits, number_none, number_step}
+use Rattle.values.proofs.number.number_at.Goals as goal
+use Rattle.values.proofs.number.number_at.Goals.{After-byte_at}
+
+-- a byte is read: each is below 256, and the sum with it fits
+abbrev Read : Type 0
+Read = After-byte_at
+
+byte : (c : Read) (i : ℕ) → get_or c.before.before.before.before.before.before.args.s.now i 0 < 256
+byte c i = (c.before.before.before.before.before.shared-slice-known.given i).fits
+
+fits : (c : Read) → c.before.before.before.loop.sum * 256 + 255 < 2 ^ 64
+fits c = number_fits _ (byte c) _ _ (omega arith) c.before.before.before.loop.invariant.2
+
+pub loop-left-init : goal.loop-left-init
+loop-left-init c =
+    (⊎_elim (λ w. omega arith) (λ w. omega arith) c.if-width-lt8.branch, omega arith, number_none _ _ _ (omega arith))
+
+pub overflow_mul-sum : goal.overflow_mul-sum
+overflow_mul-sum c = omega (arith, fits c)
+
+pub overflow_add-sum : goal.overflow_add-sum
+overflow_add-sum c =
+    omega (arith, fits c, byte c (c.args.at + (c.loop-left.left - 1)))
+
+pub loop-left-preserved : goal.loop-left-preserved
+loop-left-preserved c = (
+  c.loop-left.invariant.0,
+  omega arith,
+  number_step _ _ _ _ _ c.byte_at.ensures c.loop-left.invariant.2 (omega arith) (omega arith),
+)
+
+pub returns : goal.returns
+returns c =
+    c.loop-left.invariant.2 ∙ ap₂ (λ (x y : ℕ). number_at x c.args.s.now y) (omega arith) (omega arith)
