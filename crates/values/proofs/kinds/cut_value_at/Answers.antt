@@ -1,4 +1,4 @@
-use Rattle.std.proofs.Common.{◌+◌, ◌-◌, length, arith, rules}
+use Rattle.std.proofs.Common.{◌+◌, ◌-◌, length, arith}
 use Rattle.values.specs.Value.{payload_width, value_at}
 use Rattle.values.proofs.BytesNumbers.{byte_past, number_past, number_cut}
 use Rattle.values.proofs.kinds.cut_value_at.Goals as goal

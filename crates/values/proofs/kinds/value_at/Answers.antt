@@ -1,4 +1,3 @@
-use Rattle.std.proofs.Common.{rules}
 use Rattle.values.specs.Value.{value_at}
 use Rattle.values.proofs.kinds.value_at.Goals as goal
 

@@ -1,4 +1,4 @@
-use Rattle.std.proofs.Common.{◌≡◌, ℕ, Bool, true, false, ltb, sym, refl, ◌∙◌, rules, eq-eqb, ne_eqb}
+use Rattle.std.proofs.Common.{◌≡◌, ℕ, Bool, true, false, ltb, sym, refl, ◌∙◌, eq-eqb, ne_eqb}
 use Rattle.lattice.specs.Tests.{◌and◌, ◌or◌}
 use Rattle.values.specs.declared.Value.{Value}
 use Rattle.values.specs.Value.{integer, truth, read_view, is_write_view, viewed, well_formed}

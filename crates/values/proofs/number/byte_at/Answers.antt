@@ -1,4 +1,4 @@
-use Rattle.std.proofs.Common.{◌+◌, sym, arith, rules}
+use Rattle.std.proofs.Common.{◌+◌, sym, arith}
 use Rattle.values.proofs.BytesNumbers.{byte_past}
 use Rattle.values.proofs.number.byte_at.Goals as goal
 

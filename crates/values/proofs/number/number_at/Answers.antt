@@ -1,22 +1,22 @@
-use Rattle.std.proofs.Common.{◌≡◌, ℕ, ◌+◌, ◌-◌, ◌*◌, ◌^◌, ◌<◌, ◌≤◌, min, get_or, ◌∙◌, ap₂, ⊎_elim, arith}
+use Rattle.std.proofs.Common.{ℕ, ◌+◌, ◌-◌, ◌*◌, ◌^◌, ◌<◌, get_or, ◌∙◌, ap₂, arith}
 use Rattle.values.specs.Bytes.{number_at}
 use Rattle.values.proofs.BytesNumbers.{number_fits, number_none, number_step}
 use Rattle.values.proofs.number.number_at.Goals as goal
-use Rattle.values.proofs.number.number_at.Goals.{After-byte_at}
+use Rattle.values.proofs.number.number_at.Goals.{After-byte_at, else-width-lt8, then-width-lt8}
 
 -- a byte is read: each is below 256, and the sum with it fits
 abbrev Read : Type 0
 Read = After-byte_at
 
-byte : (c : Read) (i : ℕ) → get_or c.before.before.before.before.before.before.args.s.now i 0 < 256
-byte c i = (c.before.before.before.before.before.shared-slice-known.given i).fits
+byte : (c : Read) (i : ℕ) → get_or c.args.s.now i 0 < 256
+byte c i = (c.type_inv.s i).fits
 
-fits : (c : Read) → c.before.before.before.loop.sum * 256 + 255 < 2 ^ 64
-fits c = number_fits _ (byte c) _ _ (omega arith) c.before.before.before.loop.invariant.2
+fits : (c : Read) → c.loop-left.sum * 256 + 255 < 2 ^ 64
+fits c = number_fits _ (byte c) _ _ (omega arith) c.loop-left.invariant.2
 
 pub loop-left-init : goal.loop-left-init
 loop-left-init c =
-    (⊎_elim (λ w. omega arith) (λ w. omega arith) c.if-width-lt8.branch, omega arith, number_none _ _ _ (omega arith))
+    ((elim c.if-width-lt8.branch [ then-width-lt8 w ↦ omega arith | else-width-lt8 w ↦ omega arith ]), omega arith, number_none _ _ _ (omega arith))
 
 pub overflow_mul-sum : goal.overflow_mul-sum
 overflow_mul-sum c = omega (arith, fits c)

@@ -1,6 +1,5 @@
-use Rattle.std.proofs.Common.{◌≡◌, ℕ, ◌+◌, ◌-◌, ◌*◌, ◌^◌, ◌<◌, ◌≤◌, min, get_or, ◌∙◌, ap₂, ⊎_elim, arith}
+use Rattle.std.proofs.Common.{◌≡◌, ◌+◌, ◌-◌, ◌≤◌, min}
 use Rattle.values.specs.Bytes.{number_at}
-use Rattle.values.proofs.BytesNumbers.{number_fits, number_none, number_step}
 use Rattle.values.proofs.number.number_at.Given as goal
 
 abbrev pub invariant-loop-left : goal.invariant-loop-left

@@ -1,4 +1,4 @@
-use Rattle.std.proofs.Common.{◌≡◌, ℕ, ◌+◌, ◌-◌, ◌*◌, ◌^◌, ◌<◌, ◌≤◌, get_or, ◌∙◌, ap₂, arith}
+use Rattle.std.proofs.Common.{ℕ, ◌+◌, ◌-◌, ◌*◌, ◌^◌, ◌<◌, get_or, ◌∙◌, ap₂, arith}
 use Rattle.values.specs.Bytes.{number_at}
 use Rattle.values.proofs.BytesNumbers.{number_fits, number_none, number_step}
 use Rattle.values.proofs.number.number_in.Goals as goal
@@ -8,11 +8,11 @@ use Rattle.values.proofs.number.number_in.Goals.{After-wide}
 abbrev Read : Type 0
 Read = After-wide
 
-byte : (c : Read) (i : ℕ) → get_or c.before.before.before.before.before.args.s.now i 0 < 256
-byte c i = (c.before.shared-slice-known2.given i).fits
+byte : (c : Read) (i : ℕ) → get_or c.args.s.now i 0 < 256
+byte c i = (c.type_inv.s i).fits
 
-fits : (c : Read) → c.before.before.before.loop.sum * 256 + 255 < 2 ^ 64
-fits c = number_fits _ (byte c) _ _ (omega arith) c.before.before.before.loop.invariant.1
+fits : (c : Read) → c.loop-left.sum * 256 + 255 < 2 ^ 64
+fits c = number_fits _ (byte c) _ _ (omega arith) c.loop-left.invariant.1
 
 pub loop-left-init : goal.loop-left-init
 loop-left-init c = (omega arith, number_none _ _ _ (omega arith))

@@ -1,6 +1,5 @@
-use Rattle.std.proofs.Common.{◌≡◌, ℕ, ◌+◌, ◌-◌, ◌*◌, ◌^◌, ◌<◌, ◌≤◌, get_or, ◌∙◌, ap₂, arith}
+use Rattle.std.proofs.Common.{◌≡◌, ◌+◌, ◌-◌, ◌≤◌}
 use Rattle.values.specs.Bytes.{number_at}
-use Rattle.values.proofs.BytesNumbers.{number_fits, number_none, number_step}
 use Rattle.values.proofs.number.number_in.Given as goal
 
 abbrev pub invariant-loop-left : goal.invariant-loop-left
