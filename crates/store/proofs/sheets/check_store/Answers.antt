@@ -1,0 +1,8 @@
+use mathlib.Core.Path.{◌∙◌}
+use Rattle.store.specs.Sheet.{form_of, store_sheet}
+use Rattle.store.proofs.Sheet.{refusal_kept}
+use Rattle.store.proofs.sheets.check_store.Goals as goal
+
+pub returns : goal.returns
+unfolding form_of store_sheet
+returns c = c.sheet_checked.ensures ∙ refusal_kept _ _
