@@ -13,7 +13,7 @@ use store::Held;
 use syntax::{Row, Sizes};
 
 // Where a run of blocks stands: the block and the row that are next, the steps done, and the entries that are free.
-#[derive(Drop)]
+#[derive(Clone, Copy)]
 pub struct Place {
     pub block: usize,
     pub row: usize,
@@ -22,7 +22,7 @@ pub struct Place {
 }
 
 // How a run of blocks ended: finished; or the step at a row of a block was refused, its command's offset being `offset`.
-#[derive(Drop)]
+#[derive(Clone, Copy)]
 pub enum Ended {
     Finished {
         steps: u32,

@@ -14,7 +14,7 @@ use syntax::Operand;
 
 // An expression's value with its label; or the number of its refusal, where that is not 0. (Kind and payload stand apart: two numbers
 // that lie side by side would be written one by one and read as one, which stalls.)
-#[derive(Drop)]
+#[derive(Clone, Copy)]
 pub struct Evaluated {
     pub kind: u64,
     pub refusal: u32,

@@ -12,7 +12,7 @@ use store::{Answer, Held};
 use syntax::Row;
 
 // The row that comes next; or the number of the refusal of the step at a row. `free` counts the entries that are free.
-#[derive(Drop)]
+#[derive(Clone, Copy)]
 pub struct Next {
     pub refusal: u32,
     pub steps: u32,
@@ -21,7 +21,7 @@ pub struct Next {
 }
 
 // How a run from a row ended: at a block's end row; or the step at a row was refused, its command's offset being `at`.
-#[derive(Drop)]
+#[derive(Clone, Copy)]
 pub enum Ran {
     Done {
         row: usize,

@@ -9,7 +9,7 @@ use lattice::Table;
 use syntax::Header;
 
 // What a block runs under: what its rule set judges, its endorsement, its region's and the top's masks.
-#[derive(Drop)]
+#[derive(Clone, Copy)]
 pub struct Terms {
     // Write views, wherever they turn up (rule 1).
     pub views: bool,
@@ -31,7 +31,7 @@ impl Terms {
 }
 
 // What a rule set judges.
-#[derive(Drop)]
+#[derive(Clone, Copy)]
 pub struct Judges {
     // Whether the rule number is one.
     pub known: bool,

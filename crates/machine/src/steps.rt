@@ -11,7 +11,7 @@ use programme::{Operands, Payloads};
 use store::{Answer, Held, Opened, Value};
 
 // Whether a guard passes, with its label; or the number of its refusal.
-#[derive(Drop)]
+#[derive(Clone, Copy)]
 pub struct Judged {
     pub refusal: u32,
     pub passes: bool,
@@ -19,7 +19,7 @@ pub struct Judged {
 }
 
 // What an assignment writes, with the slot's owner; or the number of its refusal.
-#[derive(Drop)]
+#[derive(Clone, Copy)]
 pub struct Made {
     pub kind: u64,
     pub refusal: u32,

@@ -20,7 +20,7 @@ use programme::Labels;
 use syntax::Row;
 
 // A child that may be gone into, with the label inside it.
-#[derive(Drop)]
+#[derive(Clone, Copy)]
 pub enum Entry {
     Inside {
         there: usize,
@@ -32,7 +32,7 @@ pub enum Entry {
 }
 
 // The row that a path leads to, counted from the block's first.
-#[derive(Drop)]
+#[derive(Clone, Copy)]
 pub enum Found {
     At(usize),
     Bad,

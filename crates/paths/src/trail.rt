@@ -9,7 +9,7 @@ use programme::Spot;
 use syntax::Row;
 
 // A pause sheet: what stands before the path's entries. (Only the constants are used: it is held as bytes.)
-#[derive(Drop)]
+#[derive(Clone, Copy)]
 pub struct Checkpoint {
     pub steps: u32,
     pub open: u8,
@@ -35,7 +35,7 @@ impl Checkpoint {
 pub(crate) type Names = [u8; Row::DEPTHS];
 
 // What comes of looking for a row in a command: it is past the command; or it is there, and the path to it has so many entries.
-#[derive(Drop)]
+#[derive(Clone, Copy)]
 pub enum Search {
     Passed(Extent),
     Reached(usize),

@@ -13,14 +13,14 @@ use programme::Spot;
 use values::Value;
 
 // Where commands end, and how many rows they have.
-#[derive(Drop)]
+#[derive(Clone, Copy)]
 pub struct Extent {
     pub end: usize,
     pub rows: usize,
 }
 
 // A child of a command: where it lies, inside how many guards of the command, and how many rows after the command's first row it starts.
-#[derive(Drop)]
+#[derive(Clone, Copy)]
 pub enum Part {
     Inside {
         there: usize,

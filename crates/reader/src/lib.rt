@@ -9,7 +9,7 @@ mod literals;
 pub use code::read_block;
 
 // Where reading stands: the next byte of the block's code, and the next free row and operand.
-#[derive(Drop)]
+#[derive(Clone, Copy)]
 pub struct Spot {
     pub at: usize,
     pub row: usize,
@@ -17,7 +17,7 @@ pub struct Spot {
 }
 
 // What was read ended before a spot; or a refusal and its offset.
-#[derive(Drop)]
+#[derive(Clone, Copy)]
 pub enum Reading {
     Done {
         at: usize,
@@ -31,7 +31,7 @@ pub enum Reading {
 }
 
 // A literal's value, or a refusal and its offset.
-#[derive(Drop)]
+#[derive(Clone, Copy)]
 pub enum Literal {
     Value { kind: u8, payload: u64 },
     Refused { number: u32, at: usize },

@@ -17,7 +17,7 @@ use syntax::Row;
 pub(crate) type Seat = [usize; First::SEAT];
 
 // What the first pass found: the answer, how many writes there are to make again, and what they are made under.
-#[derive(Drop)]
+#[derive(Clone, Copy)]
 pub struct First {
     pub answer: Answer,
     pub writes: usize,

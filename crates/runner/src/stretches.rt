@@ -20,7 +20,7 @@ use store::{Answer, Held, Opened};
 use syntax::Sizes;
 
 // Where a block's code lies in its programme sheet, and which row is its first.
-#[derive(Drop)]
+#[derive(Clone, Copy)]
 pub struct Located {
     pub start: usize,
     pub end: usize,
@@ -28,7 +28,7 @@ pub struct Located {
 }
 
 // Where a run is taken up; or its checkpoint is not good.
-#[derive(Drop)]
+#[derive(Clone, Copy)]
 pub enum Resumed {
     At {
         block: usize,

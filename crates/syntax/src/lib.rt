@@ -4,7 +4,7 @@
 use values::Value;
 
 // What a block's entries in the sheet's arrays say, besides its length.
-#[derive(Drop)]
+#[derive(Clone, Copy)]
 pub struct Header {
     pub region: usize,
     pub endorsed: bool,

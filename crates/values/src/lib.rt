@@ -14,7 +14,7 @@ pub use number::{byte_at, number_at, wide};
 
 // What a call answers: 0 or the number of a refusal, and its place.
 #[repr(C)]
-#[derive(Drop)]
+#[derive(Clone, Copy)]
 pub struct Answer {
     pub number: u32,
     pub block: usize,
@@ -78,7 +78,7 @@ pub fn unplaced(number: u32) -> Answer
 }
 
 #[repr(C)]
-#[derive(Drop)]
+#[derive(Clone, Copy)]
 pub struct Value {
     pub kind: u8,
     pub payload: u64,
@@ -108,7 +108,7 @@ impl Value {
 
 // An entry of the journal: which block wrote which slot, at which offset, what the slot held before and what it held then.
 #[repr(C)]
-#[derive(Drop)]
+#[derive(Clone, Copy)]
 pub struct Entry {
     pub block: usize,
     pub offset: usize,

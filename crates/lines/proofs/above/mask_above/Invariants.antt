@@ -1,0 +1,15 @@
+use Prim.Native.Nat.{ℕ, ◌≤◌, ◌-◌, ◌<◌, ◌^◌}
+use mathlib.Core.Path.{◌≡◌, sym, ap, subst, ◌∙◌}
+use borrow.Author.Rules.{rules}
+use native.Mathlib.Omega.{arith}
+use Rattle.lattice.specs.Order.{bit, below}
+use Rattle.store.specs.Sheet.{order_of}
+use Rattle.lines.specs.PrincipalsAbove.{mask_where, mask_above}
+use Rattle.lines.proofs.PrincipalsAbove.{mask_lt, mask_none, mask_step}
+use Rattle.lines.proofs.above.mask_above.Given as goal
+
+abbrev pub invariant-loop-p : goal.invariant-loop-p
+invariant-loop-p l = (l.p ≤ l.n) × (l.above ≡ mask_where l.p λ q. below (order_of l.sheet) l.owner q)
+
+abbrev pub decreases-loop-p : goal.decreases-loop-p
+decreases-loop-p l = l.n - l.p
