@@ -7,23 +7,23 @@ use Rattle.reader.proofs.code.read_block.Goals as goal
 use Rattle.reader.proofs.code.read_block.Goals.{Else-at-code}
 
 pub returns-then-at-code : goal.returns-then-at-code
-returns-then-at-code c = block_left_over _ _ _ _ _ _ _ c.read_cmd.ensures _ _ _ c.at-1.given.1 c.if-at-code.true
+returns-then-at-code c = block_left_over _ _ _ _ _ _ _ c.read_cmd.ensures _ _ _ c.in-Done.is c.if-at-code.true
 
-end_small : (c : Else-at-code) → let g = c.at-1.given.0 in Small (spot_at g.0 g.1.0 g.1.1.0)
+end_small : (c : Else-at-code) → Small (spot_at c.in-Done.at c.in-Done.end c.in-Done.next)
 end_small c =
-    small (can_go 0 c.requires (cmd_onwards _ _ _ _ _ _ _ _ _ _ _ c.read_cmd.ensures _ _ _ c.at-1.given.1) (omega arith))
+    small (can_go 0 c.requires (cmd_onwards _ _ _ _ _ _ _ _ _ _ _ c.read_cmd.ensures _ _ _ c.in-Done.is) (omega arith))
 
 pub offset_bounds-rows-end : goal.offset_bounds-rows-end
-offset_bounds-rows-end c = omega (arith, (end_small (goal.at.offset_bounds-rows-end c).Else-at-code).row)
+offset_bounds-rows-end c = omega (arith, (end_small c).row)
 
 pub bounds-rows-end : goal.bounds-rows-end
-bounds-rows-end c = omega (arith, (end_small (goal.at.bounds-rows-end c).Else-at-code).row)
+bounds-rows-end c = omega (arith, (end_small c).row)
 
 pub overflow_add-result : goal.overflow_add-result
-overflow_add-result c = omega (arith, (end_small (goal.at.overflow_add-result c).Else-at-code).row)
+overflow_add-result c = omega (arith, (end_small c).row)
 
 pub returns-else-at-code : goal.returns-else-at-code
-returns-else-at-code c = block_read_law _ _ _ _ _ _ _ c.read_cmd.ensures _ _ _ c.at-1.given.1 c.if-at-code.false
+returns-else-at-code c = block_read_law _ _ _ _ _ _ _ c.read_cmd.ensures _ _ _ c.in-Done.is c.if-at-code.false
 
 pub returns-in-Refused : goal.returns-in-Refused
-returns-in-Refused c = block_refused _ _ _ _ _ _ _ c.read_cmd.ensures _ _ c.number-1.given.1
+returns-in-Refused c = block_refused _ _ _ _ _ _ _ c.read_cmd.ensures _ _ c.in-Refused.is

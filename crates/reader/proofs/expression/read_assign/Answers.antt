@@ -13,11 +13,11 @@ pub read_expr-requires-in-Done : goal.read_expr-requires-in-Done
 read_expr-requires-in-Done c =
     let d = c in
     let w = d.requires in
-    can_go 0 w.0 (value_on _ _ _ 0 _ _ _ _ _ w.1 (d.read_expr.ensures []) _ _ _ c.middle-1.given.1) (omega arith)
+    can_go 0 w.0 (value_on _ _ _ 0 _ _ _ _ _ w.1 (d.read_expr.ensures []) _ _ _ c.in-Done.is) (omega arith)
 
 pub overflow_cast-rows-in-Done-read_expr-3 : goal.overflow_cast-rows-in-Done-read_expr-3
 overflow_cast-rows-in-Done-read_expr-3 c =
-    let k = c.middle-1.given.1 in
+    let k = c.in-Done.is in
     let d = c in
     let w = d.requires in
     let o = small (can_go 0 w.0 (value_on _ _ _ 0 _ _ _ _ _ w.1 (d.read_expr.ensures []) _ _ _ k) (omega arith)) in
@@ -25,20 +25,20 @@ overflow_cast-rows-in-Done-read_expr-3 c =
 
 pub returns-in-Done-read_expr : goal.returns-in-Done-read_expr
 returns-in-Done-read_expr c =
-    let k = c.middle-1.given.1 in
+    let k = c.in-Done.is in
     let d = c in
     let w = d.requires in
-    assign_read _ _ _ _ _ _ _ _ _ w.1 (d.read_expr.ensures _) _ _ _ k _ _ (c.read_expr-in-Done.ensures _) _ _ _ c.end-1.given.1
+    assign_read _ _ _ _ _ _ _ _ _ w.1 (d.read_expr.ensures _) _ _ _ k _ _ (c.read_expr-in-Done.ensures _) _ _ _ c.in-Done-read_expr.is
 
 pub returns-in-Refused-read_expr : goal.returns-in-Refused-read_expr
 returns-in-Refused-read_expr c =
-    let k = c.middle-1.given.1 in
+    let k = c.in-Done.is in
     let d = c in
     let w = d.requires in
-    value_refused _ _ _ _ _ _ _ _ _ w.1 (d.read_expr.ensures _) _ _ _ k _ _ (c.read_expr-in-Done.ensures _) _ _ c.number-1.given.1
+    value_refused _ _ _ _ _ _ _ _ _ w.1 (d.read_expr.ensures _) _ _ _ k _ _ (c.read_expr-in-Done.ensures _) _ _ c.in-Refused-read_expr.is
 
 pub returns-in-Refused : goal.returns-in-Refused
 returns-in-Refused c =
     let d = c in
     let w = d.requires in
-    target_refused _ _ _ _ _ _ _ _ _ w.1 (d.read_expr.ensures _) _ _ c.number-in-Refused-read_expr-1.given.1
+    target_refused _ _ _ _ _ _ _ _ _ w.1 (d.read_expr.ensures _) _ _ c.in-Refused.is

@@ -16,9 +16,9 @@ returns-then-size-at-lt-WIDTH c = value_short _ _ _ (omega arith) (omega arith) 
 pub returns-then-well_formed : goal.returns-then-well_formed
 returns-then-well_formed c =
     value_good_law _ _ _ _ c.value_at-v.ensures (omega arith) (omega arith)
-    (sym c.well-formed-2.ensures ∙ c.if-well_formed.true)
+    (sym c.well_formed-2.ensures ∙ c.if-well_formed.true)
 
 pub returns-else-well_formed : goal.returns-else-well_formed
 returns-else-well_formed c =
     value_bad _ _ _ _ c.value_at-v.ensures (omega arith) (omega arith)
-    (sym c.well-formed-2.ensures ∙ c.if-well_formed.false)
+    (sym c.well_formed-2.ensures ∙ c.if-well_formed.false)
