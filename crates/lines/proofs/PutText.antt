@@ -5,7 +5,7 @@ use mathlib.Core.List.{List, [], ◌∷◌, ◌++◌}
 use native.Mathlib.Nat.{add-zero}
 use native.Mathlib.Omega.{arith}
 use lib.ListN.{length, get_or, drop, set, length-append, drop_of_length-le}
-use lib.Seq.{sets, sets-eq, length-sets, drop_cons}
+use lib.Seq.{sets, sets-eq, length-sets, drop-cons}
 use Rattle.values.proofs.BytesWritten.{sets_append}
 use Rattle.lines.specs.Decimal.{digit, decimal_within}
 use Rattle.lines.specs.PutText.{Put, Begins}
@@ -45,7 +45,7 @@ begins {t} {t'} {bytes} {room} {end} h p =
 -- the loop over some bytes: one is put, and the rest is left
 pub bytes_step : (t bytes : List ℕ) (at at' i i' : ℕ) → i < length bytes → at' ≡ suc at → i' ≡ suc i
     → sets t at (drop i bytes) ≡ sets (set t at (get_or bytes i 0)) at' (drop i' bytes)
-bytes_step t bytes at at' i i' h p q = rw (p, q, drop_cons bytes i 0 h) refl
+bytes_step t bytes at at' i i' h p q = rw (p, q, drop-cons bytes i 0 h) refl
 
 pub bytes_done : (t bytes : List ℕ) (at i : ℕ) → length bytes ≤ i → sets t at (drop i bytes) ≡ t
 bytes_done t bytes at i h = rw (drop_of_length-le bytes {i = i} h) refl

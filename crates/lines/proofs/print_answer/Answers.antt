@@ -1,4 +1,3 @@
-use borrow.Author.Rules.{rules}
 use native.Mathlib.Omega.{arith}
 use Rattle.lines.proofs.PutText.{begins}
 use Rattle.lines.proofs.print_answer.Goals as goal

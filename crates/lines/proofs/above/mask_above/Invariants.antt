@@ -1,11 +1,8 @@
-use Prim.Native.Nat.{ℕ, ◌≤◌, ◌-◌, ◌<◌, ◌^◌}
-use mathlib.Core.Path.{◌≡◌, sym, ap, subst, ◌∙◌}
-use borrow.Author.Rules.{rules}
-use native.Mathlib.Omega.{arith}
-use Rattle.lattice.specs.Order.{bit, below}
+use Prim.Native.Nat.{◌≤◌, ◌-◌}
+use mathlib.Core.Path.{◌≡◌}
+use Rattle.lattice.specs.Order.{below}
 use Rattle.store.specs.Sheet.{order_of}
-use Rattle.lines.specs.PrincipalsAbove.{mask_where, mask_above}
-use Rattle.lines.proofs.PrincipalsAbove.{mask_lt, mask_none, mask_step}
+use Rattle.lines.specs.PrincipalsAbove.{mask_where}
 use Rattle.lines.proofs.above.mask_above.Given as goal
 
 abbrev pub invariant-loop-p : goal.invariant-loop-p

@@ -1,6 +1,5 @@
 use mathlib.Core.Path.{◌∙◌, ap}
 use Prim.Native.Nat.{ℕ, ◌+◌}
-use borrow.Author.Rules.{rules}
 use native.Mathlib.Omega.{arith}
 use Rattle.lines.proofs.PrincipalsAbove.{bit_shifted, bit_fits, bit_set, bit_unset}
 use Rattle.lines.proofs.above.with_bit.Goals as goal

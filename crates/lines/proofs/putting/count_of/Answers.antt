@@ -1,5 +1,4 @@
 use Prim.Native.Nat.{◌+◌, ◌*◌}
-use borrow.Author.Rules.{rules}
 use native.Mathlib.Omega.{arith}
 use Rattle.values.specs.Value.{value_width, count_width, slot_width}
 use Rattle.values.proofs.BytesNumbers.{number_lt}

@@ -1,5 +1,4 @@
 use mathlib.Core.Path.{sym, ◌∙◌}
-use borrow.Author.Rules.{rules}
 use native.Mathlib.Omega.{arith}
 use Rattle.values.proofs.SignedIntegers.{plain, flipped, from_least}
 use Rattle.lines.proofs.putting.magnitude_of.Goals as goal

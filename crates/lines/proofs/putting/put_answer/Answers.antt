@@ -1,4 +1,3 @@
-use borrow.Author.Rules.{rules}
 use Rattle.lines.proofs.Lines.{answer_put}
 use Rattle.lines.proofs.putting.put_answer.Goals as goal
 

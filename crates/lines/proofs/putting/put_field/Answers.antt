@@ -1,4 +1,3 @@
-use borrow.Author.Rules.{rules}
 use Rattle.lines.specs.Lines.{field}
 use Rattle.lines.proofs.PutText.{put_then}
 use Rattle.lines.proofs.putting.put_field.Goals as goal

@@ -1,4 +1,3 @@
-use borrow.Author.Rules.{rules}
 use Rattle.lines.proofs.Lines.{fields_put}
 use Rattle.lines.proofs.putting.put_fields.Goals as goal
 

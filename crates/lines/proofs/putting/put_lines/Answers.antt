@@ -1,4 +1,3 @@
-use borrow.Author.Rules.{rules}
 use native.Mathlib.Omega.{arith}
 use Rattle.lines.specs.PutText.{text_room}
 use Rattle.lines.proofs.PutText.{put_then, put_as}

@@ -1,4 +1,3 @@
-use borrow.Author.Rules.{rules}
 use native.Mathlib.Omega.{arith}
 use Rattle.lines.proofs.Lines.{slot_puts}
 use Rattle.lines.proofs.putting.put_slot.Goals as goal

@@ -1,8 +1,7 @@
-use Prim.Native.Nat.{◌-◌, ◌<◌}
+use Prim.Native.Nat.{◌<◌}
 use native.Mathlib.Omega.{arith}
-use borrow.Author.Rules.{rules}
 use Rattle.lines.proofs.OwnerBytes.{one_byte, owner_read}
-use Rattle.lines.proofs.Lines.{Left, left_all, left_next, left_none}
+use Rattle.lines.proofs.Lines.{left_all, left_next, left_none}
 use Rattle.lines.proofs.putting.put_slots.Goals as goal
 use Rattle.lines.proofs.putting.put_slots.Goals.{After-number_at-n}
 

@@ -1,8 +1,5 @@
-use Prim.Native.Nat.{◌-◌, ◌<◌}
-use native.Mathlib.Omega.{arith}
-use borrow.Author.Rules.{rules}
-use Rattle.lines.proofs.OwnerBytes.{one_byte, owner_read}
-use Rattle.lines.proofs.Lines.{Left, left_all, left_next, left_none}
+use Prim.Native.Nat.{◌-◌}
+use Rattle.lines.proofs.Lines.{Left}
 use Rattle.lines.proofs.putting.put_slots.Given as goal
 
 abbrev pub invariant-loop-i : goal.invariant-loop-i

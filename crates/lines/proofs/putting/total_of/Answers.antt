@@ -1,5 +1,4 @@
-use Prim.Native.Nat.{◌≤◌, ◌-◌, ◌*◌, ◌^◌}
-use mathlib.Core.Path.{◌≡◌, ◌∙◌, ap}
+use mathlib.Core.Path.{◌∙◌, ap}
 use native.Mathlib.Omega.{arith}
 use Rattle.lines.specs.Lines.{total_of}
 use Rattle.lines.proofs.Lines.{total_none, total_step}

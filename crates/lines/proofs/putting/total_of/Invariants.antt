@@ -1,8 +1,6 @@
 use Prim.Native.Nat.{◌≤◌, ◌-◌, ◌*◌, ◌^◌}
-use mathlib.Core.Path.{◌≡◌, ◌∙◌, ap}
-use native.Mathlib.Omega.{arith}
+use mathlib.Core.Path.{◌≡◌}
 use Rattle.lines.specs.Lines.{total_of}
-use Rattle.lines.proofs.Lines.{total_none, total_step}
 use Rattle.lines.proofs.putting.total_of.Given as goal
 
 abbrev pub invariant-loop-i : goal.invariant-loop-i
