@@ -1,0 +1,11 @@
+use borrow.Author.Rules.{rules}
+use mathlib.Core.Path.{refl}
+use mathlib.Core.Logic.{⊎_elim}
+use Rattle.calculus.specs.Calculus.{truth_of}
+use Rattle.machine.specs.Answers.{got_by}
+use Rattle.machine.proofs.expressions.truth.Goals as goal
+use Rattle.machine.proofs.expressions.truth.Goals.{else-holds, then-holds}
+
+pub returns : goal.returns
+unfolding truth_of got_by
+returns c = (elim c.if-holds.branch [ then-holds k ↦ rw (k.0.taken, k.1) refl | else-holds k ↦ rw (k.0.left, k.1) refl ])

@@ -1,0 +1,14 @@
+use Prim.Native.Nat.{◌-◌, ◌≤◌}
+use mathlib.Core.Path.{◌≡◌, refl, sym, ap, ◌∙◌}
+use mathlib.Core.List.{◌++◌}
+use native.Mathlib.Omega.{arith}
+use lib.ListN.{length, length-set, drop}
+use Rattle.pausing.specs.Stretches.{pause_width}
+use Rattle.paths.proofs.PauseSheetBytes.{zeros, cleared_on, cleared_all}
+use Rattle.paths.proofs.checkpoint.clear.Given as goal
+
+abbrev pub invariant-loop-i : goal.invariant-loop-i
+invariant-loop-i l = (l.i ≤ pause_width) × (length l.sheet ≡ pause_width) × (l.sheet ≡ zeros l.i ++ drop l.i l.initial.sheet)
+
+abbrev pub decreases-loop-i : goal.decreases-loop-i
+decreases-loop-i l = pause_width - l.i

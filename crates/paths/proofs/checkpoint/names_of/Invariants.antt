@@ -1,0 +1,17 @@
+use Prim.Native.Nat.{ℕ, ◌+◌, ◌-◌, ◌<◌}
+use mathlib.Core.Path.{◌≡◌, refl}
+use mathlib.Core.List.{List}
+use native.Mathlib.Omega.{arith}
+use lib.ListN.{length, get_or, length-set}
+use Rattle.lattice.specs.Order.{Label}
+use Rattle.syntax.specs.Code.{most_deep}
+use Rattle.pausing.specs.RowPaths.{LabelsHeld}
+use Rattle.paths.proofs.SheetPaths.{names_more, names_all}
+use Rattle.paths.proofs.checkpoint.names_of.Given as goal
+
+abbrev pub invariant-loop-j : goal.invariant-loop-j
+invariant-loop-j l =
+    (length l.names ≡ most_deep + 1) × ((l : List Label) → LabelsHeld l.table l l.labels → (q : ℕ) → q < l.j → get_or l.names q 0 ≡ get_or l q 0)
+
+abbrev pub decreases-loop-j : goal.decreases-loop-j
+decreases-loop-j l = most_deep + 1 - l.j

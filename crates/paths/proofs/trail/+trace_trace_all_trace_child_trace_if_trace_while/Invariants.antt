@@ -1,0 +1,63 @@
+use Prim.Native.Nat.{ℕ, ◌+◌, ◌-◌, ◌*◌, ◌<◌, ◌≤◌}
+use mathlib.Core.Path.{◌≡◌, refl, ap, ◌∙◌}
+use native.Mathlib.Omega.{arith}
+use lib.ListN.{length, length-set}
+use borrow.Author.Rules.{rules}
+use Rattle.syntax.specs.Syntax.{Cmd}
+use Rattle.paths.specs.CodeLayout.{Left}
+use Rattle.paths.specs.SheetPaths.{Seeks, SearchAs}
+use Rattle.paths.proofs.CodeLayout.{some_within}
+use Rattle.paths.proofs.CodeExtents.{seq_span, seq_second, if_guard, if_span, span_within, left_none}
+use Rattle.paths.proofs.TraceSearch.{seeks_few, rows_within, search_width, search_past, search_there, search_here, search_written, search_unwritten, search_has}
+use Rattle.paths.proofs.TraceBranches.{stands, branches, elsewhere, body_guard, body_span, inner, further_on, if_here, while_here, other_here}
+use Rattle.paths.proofs.TraceSequence.{Rest, rest_all, rest_next, rest_none, left_first, left_next}
+use Rattle.paths.proofs.trail.+trace_trace_all_trace_child_trace_if_trace_while.Given as goal
+
+-- MEASURE: -- The measure is what of the code is left, and at one place the order of the calls.
+-- 
+-- abbrev μ-trace : Measures 3 trace-kinds.ps ℕ
+-- μ-trace κs a = 3 * (length a.0.now - a.1.1.1.0) + 1
+
+-- MEASURE: 
+-- abbrev μ-trace-all : Measures 3 trace-all-kinds.ps ℕ
+-- μ-trace-all κs a = 3 * (length a.0.now - a.1.1.1.0)
+
+-- MEASURE: 
+-- abbrev μ-trace-child : Measures 3 trace-child-kinds.ps ℕ
+-- μ-trace-child κs a = 3 * (length a.0.now - a.1.1.1.0) + 2
+
+-- MEASURE: 
+-- abbrev μ-trace-if : Measures 3 trace-if-kinds.ps ℕ
+-- μ-trace-if κs a = 3 * (length a.0.now - a.1.1.1.0)
+
+-- MEASURE: 
+-- abbrev μ-trace-while : Measures 3 trace-while-kinds.ps ℕ
+-- μ-trace-while κs a = 3 * (length a.0.now - a.1.1.1.0)
+
+abbrev pub decreases-trace : goal.decreases-trace
+decreases-trace l = ?
+
+abbrev pub decreases-trace_all : goal.decreases-trace_all
+decreases-trace_all l = ?
+
+abbrev pub decreases-trace_child : goal.decreases-trace_child
+decreases-trace_child l = ?
+
+abbrev pub decreases-trace_if : goal.decreases-trace_if
+decreases-trace_if l = ?
+
+abbrev pub decreases-trace_while : goal.decreases-trace_while
+decreases-trace_while l = ?
+
+-- the row is to be looked for in the commands from here on, and those before had as many rows as were counted off
+abbrev pub invariant-trace_all-loop-child : goal.invariant-trace_all-loop-child
+invariant-trace_all-loop-child l =
+    (l.at < l.here)
+    × (l.row ≤ l.i)
+    × (l.child ≤ l.count)
+    × (l.sheet ≡ l.initial.sheet)
+    × ((end total : ℕ) → Left l.code (l.at + 2) l.count 0 end total → Left l.code l.here (l.count - l.child) (l.i - l.row) end total)
+    × ((c : Cmd) → Seeks l.code c l.at l.i l.len → Rest l.code c l.i l.len l.here l.row l.child l.count)
+
+abbrev pub decreases-trace_all-loop-child : goal.decreases-trace_all-loop-child
+decreases-trace_all-loop-child l = l.count - l.child
