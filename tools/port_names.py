@@ -117,8 +117,9 @@ def main():
         if new != text:
             with open(path, "w", encoding="utf-8") as f:
                 f.write(new)
-    for path in files("specs/Contracts.antt"):  # Rattle makes a module `specs.contracts` itself
-        os.rename(path, path.replace("Contracts.antt", "MachineContracts.antt"))
+    for path in list(files("Contracts.antt")):  # Rattle makes a module `specs.contracts` itself
+        if path.endswith("specs/Contracts.antt"):
+            os.rename(path, path.replace("Contracts.antt", "MachineContracts.antt"))
     for path in files(".antt", ".rt"):
         text = read(path)
         new = re.sub(r"\bspecs\.Contracts\b", "specs.MachineContracts", text)

@@ -121,6 +121,9 @@ loop-head-smaller c = omega (arith, within (goal.at.loop-head-smaller c).At-loop
 pub loop-head-preserved : goal.loop-head-preserved
 loop-head-preserved c =
     let a = c in
-    (elim c.if-what-lt-KINDS.branch [ then-what-lt-KINDS k ↦ rw (k.3, k.4, k.5, k.6, k.7)
-    (turn_literal a.loop-head.invariant k.0.taken k.1.result k.1.ensures a.requires k.2.left) | else-what-lt-KINDS k ↦ rw (k.5, k.6, k.7, k.8, k.9)
-    (turn_operation a.loop-head.invariant k.0.left _ refl k.2.result k.2.ensures k.3.left k.4.keys2) ])
+    (elim c.if-what-lt-KINDS.branch [
+      | then-what-lt-KINDS k ↦ rw (k.3, k.4, k.5, k.6, k.7)
+          (turn_literal a.loop-head.invariant k.0.taken k.1.result k.1.ensures a.requires k.2.left)
+      | else-what-lt-KINDS k ↦ rw (k.5, k.6, k.7, k.8, k.9)
+          (turn_operation a.loop-head.invariant k.0.left _ refl k.2.result k.2.ensures k.3.left k.4.keys2)
+    ])

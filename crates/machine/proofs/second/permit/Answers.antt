@@ -29,8 +29,11 @@ allowed : (c : Joined-regions) (w : Setting) (s : Store)
     → Behind (grounds c.args.terms c.args.masks.now c.args.held.now) w s
     → authorised w c.args.slot ≡ true
 allowed c w s v =
-    (elim c.if-regions.branch [ then-regions k ↦ region_judged w _ _ v.serves _ _ _ k.0.taken (row_owner _ _ _ (c.row_of-row.ensures w.tables s v.held)) k.1.ensures
-    ∙ not-false _ k.2.left | else-regions k ↦ region_unjudged w _ _ v.serves _ k.left ])
+    (elim c.if-regions.branch [
+      | then-regions k ↦ region_judged w _ _ v.serves _ _ _ k.0.taken (row_owner _ _ _ (c.row_of-row.ensures w.tables s v.held)) k.1.ensures
+          ∙ not-false _ k.2.left
+      | else-regions k ↦ region_unjudged w _ _ v.serves _ k.left
+    ])
 
 pub returns-then-not-reliable : goal.returns-then-not-reliable
 returns-then-not-reliable c w s x y b v q t l d =
