@@ -119,7 +119,7 @@ block_of t r o zero (c ∷ bs) b rest h e =
     rw (← q, y) (record { operand = o; stands = h.0 })
 block_of t r o (suc j) (c ∷ bs) b rest h e =
     let y : r + (size c.command + 1 + rows_before bs j) ≡ r + size c.command + 1 + rows_before bs j = omega arith in
-    rw y (block_of t _ _ j bs b rest h.1 e)
+    rw y (block_of t (r + size c.command + 1) _ j bs b rest h.1 e)
 
 pub before_next : (j : ℕ) (bs : List Block) (b : Block) (rest : List Block) → drop j bs ≡ b ∷ rest → rows_before bs (j + 1) ≡ rows_before bs j + size b.command + 1
 unfolding rows_before

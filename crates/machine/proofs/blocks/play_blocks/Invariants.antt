@@ -8,8 +8,8 @@ use Rattle.machine.proofs.blocks.play_blocks.Given as goal
 
 abbrev pub invariant-loop-block : goal.invariant-loop-block
 invariant-loop-block l =
-    Underway (played (tables_of l.rows l.operands l.payloads) l.table l.judges l.budget) l.sheet l.k (record { l.block = l.initial.block; l.row = l.initial.row; l.steps = l.initial.steps; l.free = l.initial.free }) l.initial.labels l.initial.held
-    (record { l.block = l.block; l.row = l.row; l.steps = l.steps; l.free = l.free }) l.labels l.held
+    Underway (played (tables_of l.rows l.operands l.payloads) l.table l.judges l.budget) l.sheet l.k (record { block = l.initial.block; row = l.initial.row; steps = l.initial.steps; free = l.initial.free }) l.initial.labels l.initial.held
+    (record { block = l.block; row = l.row; steps = l.steps; free = l.free }) l.labels l.held
 
 abbrev pub decreases-loop-block : goal.decreases-loop-block
 decreases-loop-block l = l.k - l.block

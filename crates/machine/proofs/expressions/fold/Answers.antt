@@ -110,7 +110,7 @@ returns-in_default c =
     let b = m in
     let d = b in
     rw c.refused_value-in_default.ensures
-    (turn_read d.loop-head.invariant d.if-what-lt-KINDS.false _ refl b.operate-x.result b.operate-x.ensures m.in_default.rest.0.1 m.in_default.rest.1)
+    (turn_read d.loop-head.invariant d.if-what-lt-KINDS.false _ refl b.operate-x.result b.operate-x.ensures m.in_default.in_default-own.rest.0.1 m.in_default.in_default-own.rest.1)
 
 pub overflow_add-o : goal.overflow_add-o
 overflow_add-o c = omega (arith, within (goal.at.overflow_add-o c).At-loop-head)
@@ -123,7 +123,7 @@ loop-head-preserved c =
     let a = c in
     (elim c.if-what-lt-KINDS.branch [
       | then-what-lt-KINDS k ↦ rw (k.3, k.4, k.5, k.6, k.7)
-          (turn_literal a.loop-head.invariant k.0.taken k.1.result k.1.ensures a.requires k.2.left)
+          (turn_literal a.loop-head.invariant k.if-what-lt-KINDS.true k.1.result k.1.ensures a.requires k.2.left)
       | else-what-lt-KINDS k ↦ rw (k.5, k.6, k.7, k.8, k.9)
-          (turn_operation a.loop-head.invariant k.0.left _ refl k.2.result k.2.ensures k.3.left k.4.keys2)
+          (turn_operation a.loop-head.invariant k.if-what-lt-KINDS.false _ refl k.2.result k.2.ensures k.3.left k.4.keys2)
     ])

@@ -34,6 +34,6 @@ returns-in_default c o e =
     let m = c in
     let d = m in
     rw (
-      compares _ _ _ _ _ d.if-left.false d.if-right.false o _ e d.if-operation-eq-EQUAL.false m.in_default.rest.0.1 m.in_default.rest.1,
+      compares _ _ _ _ _ d.if-left.false d.if-right.false o _ e d.if-operation-eq-EQUAL.false m.in_default.in_default-own.rest.0.1 m.in_default.in_default-own.rest.1,
       ← c.less_than.ensures,
     ) c.truth-in_default.ensures

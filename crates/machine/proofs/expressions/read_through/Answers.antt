@@ -34,7 +34,7 @@ loop-terms-init c w s v n h x = ready_all w s x _ _ _ _ c.wide-kind.ensures refl
 
 -- what the caller's setting and literal make of the value that has turned up
 abbrev entry : At-loop-terms → Start
-entry c = c
+entry c = c.before.before.before.before.before
 
 ready : (c : At-loop-terms)
     → let p = (entry c).requires in

@@ -8,4 +8,4 @@ use Rattle.machine.proofs.expressions.truth.Goals.{else-holds, then-holds}
 
 pub returns : goal.returns
 unfolding truth_of got_by
-returns c = (elim c.if-holds.branch [ then-holds k ↦ rw (k.0.taken, k.1) refl | else-holds k ↦ rw (k.0.left, k.1) refl ])
+returns c = (elim c.if-holds.branch [ then-holds k ↦ rw (k.if-holds.true, k.1) refl | else-holds k ↦ rw (k.if-holds.false, k.1) refl ])

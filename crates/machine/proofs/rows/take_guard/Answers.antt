@@ -19,7 +19,7 @@ bounds-rows-row c = omega (arith, run_inside c.requires.can.goes.runs)
 
 -- the row's numbers, as they were read
 abbrev start : After-wide16-operand → Start
-start c = c
+start c = c.before.before.before
 
 abbrev gives : Start → Given
 gives s = given s.args.terms s.args.masks.now (tables_of s.args.rows.now s.args.operands.now s.args.payloads.now) s.args.budget

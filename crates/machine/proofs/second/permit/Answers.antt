@@ -30,7 +30,7 @@ allowed : (c : Joined-regions) (w : Setting) (s : Store)
     → authorised w c.args.slot ≡ true
 allowed c w s v =
     (elim c.if-regions.branch [
-      | then-regions k ↦ region_judged w _ _ v.serves _ _ _ k.0.taken (row_owner _ _ _ (c.row_of-row.ensures w.tables s v.held)) k.1.ensures
+      | then-regions k ↦ region_judged w _ _ v.serves _ _ _ k.if-regions.true (row_owner _ _ _ (c.row_of-row.ensures w.tables s v.held)) k.1.ensures
           ∙ not-false _ k.2.left
       | else-regions k ↦ region_unjudged w _ _ v.serves _ k.left
     ])

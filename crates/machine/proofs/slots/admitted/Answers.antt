@@ -23,7 +23,7 @@ returns-then-not-is_write_view c w s v =
     no_view w (judged (goal.at.returns-then-not-is_write_view c).Start) (sym (c.is_write_view.ensures d.args.payload) ∙ c.if-not-is_write_view.true)
 
 -- past the second test the value is a write view
-is_view : (c : Else-not-is_write_view) → is_write_view (judged c) ≡ true
+is_view : (c : Else-not-is_write_view) → is_write_view (judged c.before.before.before) ≡ true
 is_view c = sym (c.is_write_view.ensures c.args.payload) ∙ c.if-not-is_write_view.false
 
 pub row_of-row-requires : goal.row_of-row-requires
