@@ -7,7 +7,6 @@ use native.Mathlib.Omega.{arith}
 use lib.ListN.{length}
 use borrow.Author.Tests.{ltb-true}
 use Rattle.lattice.specs.declared.Table.{Table}
-use Rattle.lattice.specs.Tests.{◌and◌}
 use Rattle.lattice.specs.Order.{Label}
 use Rattle.lattice.proofs.Tests.{and_l}
 use Rattle.syntax.specs.Syntax.{Cmd, cmd, Body, skip, assign, seq, if, while, Cmds, nil, cons}

@@ -9,7 +9,7 @@ use native.Mathlib.Omega.{arith}
 use lib.ListN.{length, get_or, drop, get_or-eq_default}
 use lib.Seq.{get_or-take, get_or-drop, ext_get_or}
 use borrow.Author.Tests.{le-ltb, leb-true, le-leb}
-use Rattle.lattice.specs.Tests.{◌and◌, ◌or◌}
+use Rattle.lattice.specs.Tests.{◌or◌}
 use Rattle.lattice.proofs.Tests.{and_l, and_r, and_of, every_at, every_of}
 use Rattle.values.specs.declared.Value.{Value}
 use Rattle.values.specs.Bytes.{Bytes, entries, part, table, filled}

@@ -7,7 +7,6 @@ use mathlib.Core.List.{List, [], ◌∷◌}
 use native.Mathlib.Omega.{arith}
 use lib.ListN.{length, drop}
 use borrow.Author.Tests.{le-leb}
-use Rattle.lattice.specs.Tests.{◌and◌}
 use Rattle.lattice.specs.Order.{most_principals}
 use Rattle.lattice.proofs.Tests.{and_l, and_r, and_of}
 use Rattle.lattice.proofs.Order.{good_at}

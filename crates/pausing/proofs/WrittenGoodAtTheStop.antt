@@ -7,7 +7,6 @@ use native.Mathlib.Omega.{arith}
 use lib.Dec.{eqb}
 use borrow.Author.Tests.{eq-eqb, lt-ltb, ltb-true}
 use Rattle.lattice.specs.declared.Table.{Table}
-use Rattle.lattice.specs.Tests.{◌and◌}
 use Rattle.lattice.specs.Order.{Label, meet}
 use Rattle.lattice.proofs.Tests.{and_l, and_of}
 use Rattle.lattice.proofs.Order.{meet_lt, meet_meets}

@@ -16,7 +16,6 @@ use Rattle.pausing.proofs.NeverPaused.{never_paused}
 use Rattle.isolation.proofs.Isolation.{full_rule, isolated_down_to_floors}
 use Rattle.isolation.proofs.Ladder.{journals}
 use Rattle.pausing.proofs.StretchesFinished.{pause_fits, steps_covered}
-use Rattle.calculus.specs.Run as run
 
 -- a chain under rule numbers of one kind is one under those of another
 chain_under : {Ruled Ruled' : ℕ → Type 0} {store programme : List ℕ} → ((rule : ℕ) → Ruled rule → Ruled' rule)

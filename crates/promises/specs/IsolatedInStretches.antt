@@ -3,7 +3,6 @@ use Rattle.std.specs.Prelude.{ℕ, ◌≡◌, List, length}
 use Rattle.isolation.specs.Isolation.{FullRule, IsolationOf, FloorsOutOfReach}
 use Rattle.pausing.specs.Stretches.{From, stretch, answer, output}
 use Rattle.pausing.specs.StretchesPromises.{Chain}
-use Rattle.calculus.specs.Run as run
 
 -- Demand 3
 
