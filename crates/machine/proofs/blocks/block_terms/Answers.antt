@@ -1,5 +1,4 @@
 use mathlib.Core.Path.{◌≡◌}
-use borrow.Author.Rules.{rules}
 use Rattle.syntax.specs.Sheet.{header_at}
 use Rattle.syntax.proofs.SheetHeaders.{header_there}
 use Rattle.machine.proofs.blocks.block_terms.Goals as goal

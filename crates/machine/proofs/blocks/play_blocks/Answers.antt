@@ -1,9 +1,5 @@
-use Prim.Native.Nat.{◌-◌}
 use native.Mathlib.Omega.{arith}
-use borrow.Author.Rules.{rules}
-use Rattle.syntax.specs.Rows.{tables_of}
-use Rattle.machine.specs.BlockRuns.{played}
-use Rattle.machine.proofs.BlockRunsLoop.{Underway, underway_start, underway_ends, underway_tell, underway_can, underway_next, underway_row, underway_stops}
+use Rattle.machine.proofs.BlockRunsLoop.{underway_start, underway_ends, underway_tell, underway_can, underway_next, underway_row, underway_stops}
 use Rattle.machine.proofs.blocks.play_blocks.Goals as goal
 
 pub loop-block-init : goal.loop-block-init

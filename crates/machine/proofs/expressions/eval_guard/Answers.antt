@@ -1,4 +1,3 @@
-use borrow.Author.Rules.{rules}
 use Rattle.machine.proofs.EvalFirstOperand.{first_inside, some_only, only_read}
 use Rattle.machine.proofs.expressions.eval_guard.Goals as goal
 

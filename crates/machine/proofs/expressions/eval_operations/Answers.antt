@@ -1,4 +1,3 @@
-use borrow.Author.Rules.{rules}
 use Rattle.machine.specs.MachineContracts.{Grounds, grounds}
 use Rattle.machine.proofs.EvalFirstOperand.{some_first, first_refused, some_second, third_inside, can_fold, folded, second_refused, pair_done}
 use Rattle.machine.proofs.expressions.eval_operations.Goals as goal

@@ -1,15 +1,11 @@
-use borrow.Author.Rules.{rules}
-use Prim.Native.Nat.{◌-◌, ◌<◌, ◌≤◌}
+use Prim.Native.Nat.{◌<◌}
 use mathlib.Core.Path.{refl}
-use mathlib.Core.Logic.{⊎_elim}
 use native.Mathlib.Omega.{arith}
 use Rattle.syntax.specs.Code.{most_nested}
 use Rattle.syntax.specs.Rows.{most_operands}
-use Rattle.machine.specs.MachineContracts.{grounds, both_tables}
-use Rattle.machine.proofs.FoldStack.{stack}
-use Rattle.machine.proofs.FoldLoop.{can_read, Turn, turn_first, turn_inside, some_literal, some_room, turn_barred, turn_literal, some_wait, turn_refused, turn_read, turn_last, turn_operation}
+use Rattle.machine.proofs.FoldLoop.{can_read, turn_first, turn_inside, some_literal, some_room, turn_barred, turn_literal, some_wait, turn_refused, turn_read, turn_last, turn_operation}
 use Rattle.machine.proofs.expressions.fold.Goals as goal
-use Rattle.machine.proofs.expressions.fold.Goals.{At-loop-head, Else-number-ne0, Else-what-lt-KINDS, else-what-lt-KINDS, then-what-lt-KINDS}
+use Rattle.machine.proofs.expressions.fold.Goals.{At-loop-head, Else-number-ne0, then-what-lt-KINDS+else-number-ne0, else-what-lt-KINDS+else-number-ne0-2+in-128}
 
 pub loop-head-init : goal.loop-head-init
 loop-head-init c = turn_first (record { kinds = refl; numbers = refl; labels = refl })
@@ -64,29 +60,26 @@ overflow_add-waiting c = omega (arith, room c)
 
 -- An operation comes
 
-waits : (c : Else-what-lt-KINDS) → (0 < c.loop-head.waiting) × (c.loop-head.waiting ≤ most_nested)
-waits c = let u = c.loop-head.invariant in (some_wait u c.if-what-lt-KINDS.false c.requires, u.few)
-
 pub overflow_sub-waiting : goal.overflow_sub-waiting
-overflow_sub-waiting c = (waits c).0
+overflow_sub-waiting c = some_wait c.loop-head.invariant c.if-what-lt-KINDS.false c.requires
 
 pub offset_bounds-kinds-waiting-else-what-lt-KINDS : goal.offset_bounds-kinds-waiting-else-what-lt-KINDS
-offset_bounds-kinds-waiting-else-what-lt-KINDS c = omega (arith, waits c)
+offset_bounds-kinds-waiting-else-what-lt-KINDS c = omega (arith, some_wait c.loop-head.invariant c.if-what-lt-KINDS.false c.requires, c.loop-head.invariant.few)
 
 pub bounds-kinds-waiting-else-what-lt-KINDS : goal.bounds-kinds-waiting-else-what-lt-KINDS
-bounds-kinds-waiting-else-what-lt-KINDS c = omega (arith, waits c)
+bounds-kinds-waiting-else-what-lt-KINDS c = omega (arith, some_wait c.loop-head.invariant c.if-what-lt-KINDS.false c.requires, c.loop-head.invariant.few)
 
 pub offset_bounds-numbers-waiting-else-what-lt-KINDS : goal.offset_bounds-numbers-waiting-else-what-lt-KINDS
-offset_bounds-numbers-waiting-else-what-lt-KINDS c = omega (arith, waits (goal.at.offset_bounds-numbers-waiting-else-what-lt-KINDS c).Else-what-lt-KINDS)
+offset_bounds-numbers-waiting-else-what-lt-KINDS c = omega (arith, some_wait c.loop-head.invariant c.if-what-lt-KINDS.false c.requires, c.loop-head.invariant.few)
 
 pub bounds-numbers-waiting-else-what-lt-KINDS : goal.bounds-numbers-waiting-else-what-lt-KINDS
-bounds-numbers-waiting-else-what-lt-KINDS c = omega (arith, waits (goal.at.bounds-numbers-waiting-else-what-lt-KINDS c).Else-what-lt-KINDS)
+bounds-numbers-waiting-else-what-lt-KINDS c = omega (arith, some_wait c.loop-head.invariant c.if-what-lt-KINDS.false c.requires, c.loop-head.invariant.few)
 
 pub offset_bounds-labels-waiting-else-what-lt-KINDS : goal.offset_bounds-labels-waiting-else-what-lt-KINDS
-offset_bounds-labels-waiting-else-what-lt-KINDS c = omega (arith, waits (goal.at.offset_bounds-labels-waiting-else-what-lt-KINDS c).Else-what-lt-KINDS)
+offset_bounds-labels-waiting-else-what-lt-KINDS c = omega (arith, some_wait c.loop-head.invariant c.if-what-lt-KINDS.false c.requires, c.loop-head.invariant.few)
 
 pub bounds-labels-waiting-else-what-lt-KINDS : goal.bounds-labels-waiting-else-what-lt-KINDS
-bounds-labels-waiting-else-what-lt-KINDS c = omega (arith, waits (goal.at.bounds-labels-waiting-else-what-lt-KINDS c).Else-what-lt-KINDS)
+bounds-labels-waiting-else-what-lt-KINDS c = omega (arith, some_wait c.loop-head.invariant c.if-what-lt-KINDS.false c.requires, c.loop-head.invariant.few)
 
 pub refused_value-requires-then-number-ne0-2 : goal.refused_value-requires-then-number-ne0-2
 refused_value-requires-then-number-ne0-2 c = omega (arith, c.if-number-ne0-2.true)
@@ -122,8 +115,8 @@ pub loop-head-preserved : goal.loop-head-preserved
 loop-head-preserved c =
     let a = c in
     (elim c.if-what-lt-KINDS.branch [
-      | then-what-lt-KINDS k ↦ rw (k.3, k.4, k.5, k.6, k.7)
-          (turn_literal a.loop-head.invariant k.if-what-lt-KINDS.true k.1.result k.1.ensures a.requires k.2.left)
-      | else-what-lt-KINDS k ↦ rw (k.5, k.6, k.7, k.8, k.9)
-          (turn_operation a.loop-head.invariant k.if-what-lt-KINDS.false _ refl k.2.result k.2.ensures k.3.left k.4.keys2)
+      | then-what-lt-KINDS+else-number-ne0 k ↦ rw (k.kinds-is, k.numbers-is, k.labels-is, k.waiting-is, k.last-is)
+          (turn_literal a.loop-head.invariant k.if-what-lt-KINDS.true k.read_through-x.result k.read_through-x.ensures a.requires k.if-number-ne0.false)
+      | else-what-lt-KINDS+else-number-ne0-2+in-128 k ↦ rw (k.kinds-is, k.numbers-is, k.labels-is, k.waiting-is, k.last-is)
+          (turn_operation a.loop-head.invariant k.if-what-lt-KINDS.false _ refl k.operate-x.result k.operate-x.ensures k.if-number-ne0-2.false k.in-128.is)
     ])

@@ -1,13 +1,8 @@
-use borrow.Author.Rules.{rules}
-use Prim.Native.Nat.{◌-◌, ◌<◌, ◌≤◌}
-use mathlib.Core.Path.{refl}
-use mathlib.Core.Logic.{⊎_elim}
-use native.Mathlib.Omega.{arith}
-use Rattle.syntax.specs.Code.{most_nested}
+use Prim.Native.Nat.{◌-◌}
 use Rattle.syntax.specs.Rows.{most_operands}
 use Rattle.machine.specs.MachineContracts.{grounds, both_tables}
 use Rattle.machine.proofs.FoldStack.{stack}
-use Rattle.machine.proofs.FoldLoop.{can_read, Turn, turn_first, turn_inside, some_literal, some_room, turn_barred, turn_literal, some_wait, turn_refused, turn_read, turn_last, turn_operation}
+use Rattle.machine.proofs.FoldLoop.{Turn}
 use Rattle.machine.proofs.expressions.fold.Given as goal
 
 -- The values that wait are held in three arrays, and the last value is in hand; what every turn knows is `Turn`. The measure is the operands to come.

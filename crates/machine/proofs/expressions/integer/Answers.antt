@@ -1,4 +1,3 @@
-use borrow.Author.Rules.{rules}
 use mathlib.Core.Path.{refl}
 use Rattle.machine.proofs.Answers.{got_value_law}
 use Rattle.machine.proofs.expressions.integer.Goals as goal

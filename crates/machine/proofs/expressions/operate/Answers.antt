@@ -1,4 +1,3 @@
-use borrow.Author.Rules.{rules}
 use mathlib.Core.Path.{sym, ◌∙◌}
 use Rattle.machine.proofs.OperationAnswers.{left_refused, right_refused, equals, differs, sums, differences, compares}
 use Rattle.machine.proofs.expressions.operate.Goals as goal

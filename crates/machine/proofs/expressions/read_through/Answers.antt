@@ -1,21 +1,17 @@
-use borrow.Author.Rules.{rules}
-use Prim.Native.Nat.{ℕ, ◌%◌}
+use Prim.Native.Nat.{◌%◌}
 use mathlib.Core.Path.{refl}
 use mathlib.Core.Logic.{inl, inr}
 use native.Mathlib.Omega.{arith}
-use borrow.Author.Tests.{not-true, not-false}
-use Rattle.values.specs.declared.Value.{Value}
 use Rattle.syntax.specs.Syntax.{literal}
 use Rattle.syntax.specs.Rows.{more_come}
-use Rattle.calculus.specs.Calculus.{Setting, Store, eval}
+use Rattle.calculus.specs.Calculus.{eval}
 use Rattle.machine.specs.Answers.{got_by}
-use Rattle.machine.specs.CompiledExpressions.{LiteralAt, read_times}
-use Rattle.machine.specs.MachineContracts.{grounds, Behind, both_tables}
+use Rattle.machine.specs.CompiledExpressions.{read_times}
 use Rattle.machine.proofs.ViewAdmission.{owner_in}
 use Rattle.machine.proofs.SlotRows.{view_held}
 use Rattle.machine.proofs.LiteralReads.{Ready, ready_all, ready_barred, ready_done, ready_kind, ready_next}
 use Rattle.machine.proofs.expressions.read_through.Goals as goal
-use Rattle.machine.proofs.expressions.read_through.Goals.{At-loop-terms, Start}
+use Rattle.machine.proofs.expressions.read_through.Goals.{At-loop-terms}
 
 pub offset_bounds-operands-o : goal.offset_bounds-operands-o
 offset_bounds-operands-o c = omega (arith, c.requires.1.is.is.inside)
@@ -33,18 +29,15 @@ pub loop-terms-init : goal.loop-terms-init
 loop-terms-init c w s v n h x = ready_all w s x _ _ _ _ c.wide-kind.ensures refl refl h.serves.top
 
 -- what the caller's setting and literal make of the value that has turned up
-abbrev entry : At-loop-terms → Start
-entry c = c.before.before.before.before.before
-
 ready : (c : At-loop-terms)
-    → let p = (entry c).requires in
+    → let p = c.requires in
     Ready p.0.setting p.0.store c.loop-terms.kind c.loop-terms.payload c.loop-terms.label c.loop-terms.left
     (read_times p.0.setting p.0.store (p.1.reads % more_come) (eval p.0.setting p.0.store (literal p.1.value)))
 ready c =
-    let p = (entry c).requires in c.loop-terms.invariant p.0.setting p.0.store p.1.value p.1.reads p.0.behind p.1.is
+    let p = c.requires in c.loop-terms.invariant p.0.setting p.0.store p.1.value p.1.reads p.0.behind p.1.is
 
 pub admitted-requires : goal.admitted-requires
-admitted-requires c = ((entry c).requires.0, λ k. view_held (ready c).held (inr k))
+admitted-requires c = (c.requires.0, λ k. view_held (ready c).held (inr k))
 
 pub returns-then-not-admitted : goal.returns-then-not-admitted
 returns-then-not-admitted c w s v n h x =
@@ -72,10 +65,10 @@ row_of-row-requires c =
     omega (arith, c.viewed.ensures 0, view_held (ready (goal.at.row_of-row-requires c).At-loop-terms).held (inl d.if-kind.false))
 
 pub offset_bounds-masks-owner : goal.offset_bounds-masks-owner
-offset_bounds-masks-owner c = omega (arith, owner_in _ _ (entry (goal.at.offset_bounds-masks-owner c).At-loop-terms).pre.0 c.row_of-row.ensures)
+offset_bounds-masks-owner c = omega (arith, owner_in _ _ c.requires.0 c.row_of-row.ensures)
 
 pub bounds-masks-owner : goal.bounds-masks-owner
-bounds-masks-owner c = owner_in _ _ (entry (goal.at.bounds-masks-owner c).At-loop-terms).pre.0 c.row_of-row.ensures
+bounds-masks-owner c = owner_in _ _ c.requires.0 c.row_of-row.ensures
 
 pub overflow_sub-left : goal.overflow_sub-left
 overflow_sub-left c = omega (arith, c.if-left-eq0.false)

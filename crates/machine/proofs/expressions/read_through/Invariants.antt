@@ -1,19 +1,11 @@
-use borrow.Author.Rules.{rules}
 use Prim.Native.Nat.{ℕ, ◌%◌}
-use mathlib.Core.Path.{refl}
-use mathlib.Core.Logic.{inl, inr}
-use native.Mathlib.Omega.{arith}
-use borrow.Author.Tests.{not-true, not-false}
 use Rattle.values.specs.declared.Value.{Value}
 use Rattle.syntax.specs.Syntax.{literal}
 use Rattle.syntax.specs.Rows.{more_come}
 use Rattle.calculus.specs.Calculus.{Setting, Store, eval}
-use Rattle.machine.specs.Answers.{got_by}
 use Rattle.machine.specs.CompiledExpressions.{LiteralAt, read_times}
 use Rattle.machine.specs.MachineContracts.{grounds, Behind, both_tables}
-use Rattle.machine.proofs.ViewAdmission.{owner_in}
-use Rattle.machine.proofs.SlotRows.{view_held}
-use Rattle.machine.proofs.LiteralReads.{Ready, ready_all, ready_barred, ready_done, ready_kind, ready_next}
+use Rattle.machine.proofs.LiteralReads.{Ready}
 use Rattle.machine.proofs.expressions.read_through.Given as goal
 
 abbrev pub invariant-loop-terms : goal.invariant-loop-terms

@@ -1,6 +1,4 @@
-use borrow.Author.Rules.{rules}
 use mathlib.Core.Path.{refl}
-use mathlib.Core.Logic.{⊎_elim}
 use Rattle.calculus.specs.Calculus.{truth_of}
 use Rattle.machine.specs.Answers.{got_by}
 use Rattle.machine.proofs.expressions.truth.Goals as goal
@@ -8,4 +6,4 @@ use Rattle.machine.proofs.expressions.truth.Goals.{else-holds, then-holds}
 
 pub returns : goal.returns
 unfolding truth_of got_by
-returns c = (elim c.if-holds.branch [ then-holds k ↦ rw (k.if-holds.true, k.1) refl | else-holds k ↦ rw (k.if-holds.false, k.1) refl ])
+returns c = (elim c.if-holds.branch [ then-holds k ↦ rw (k.if-holds.true, k.payload-is) refl | else-holds k ↦ rw (k.if-holds.false, k.payload-is) refl ])

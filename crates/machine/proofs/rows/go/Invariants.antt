@@ -1,10 +1,7 @@
-use native.Mathlib.Omega.{arith}
-use borrow.Author.Rules.{rules}
 use Rattle.syntax.specs.Rows.{tables_of}
-use Rattle.machine.specs.Answers.{control_by, control}
+use Rattle.machine.specs.Answers.{control}
 use Rattle.machine.specs.Machine.{given, place, weight}
-use Rattle.machine.proofs.Answers.{control_on, control_stopped}
-use Rattle.machine.proofs.MachineRuns.{Goes, opening, row_inside, can_move, moved, finished, halted}
+use Rattle.machine.proofs.MachineRuns.{Goes}
 use Rattle.machine.proofs.rows.go.Given as goal
 
 abbrev pub invariant-loop-terms : goal.invariant-loop-terms

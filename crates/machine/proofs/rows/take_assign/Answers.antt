@@ -1,6 +1,5 @@
 use mathlib.Core.Path.{◌≡◌}
 use native.Mathlib.Omega.{arith}
-use borrow.Author.Rules.{rules}
 use Rattle.syntax.specs.Rows.{tables_of}
 use Rattle.machine.specs.Answers.{control_by}
 use Rattle.machine.specs.Machine.{Given, given, Place, place}

@@ -1,7 +1,6 @@
 use mathlib.Core.Path.{refl}
 use mathlib.Core.Bool.{true, false}
 use native.Mathlib.Omega.{arith}
-use borrow.Author.Rules.{rules}
 use Rattle.syntax.specs.Rows.{tables_of}
 use Rattle.machine.specs.Answers.{control_by}
 use Rattle.machine.specs.CompiledRuns.{next}

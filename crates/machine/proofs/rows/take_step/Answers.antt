@@ -1,5 +1,4 @@
 use native.Mathlib.Omega.{arith}
-use borrow.Author.Rules.{rules}
 use Rattle.machine.specs.Answers.{control_by}
 use Rattle.machine.proofs.MachineRows.{run_inside}
 use Rattle.machine.proofs.MachineRuns.{spent_stops, can_assign, can_guard}

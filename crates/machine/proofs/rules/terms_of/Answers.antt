@@ -1,5 +1,4 @@
 use mathlib.Core.Path.{refl}
-use borrow.Author.Rules.{rules}
 use Rattle.machine.proofs.RuleTerms.{serves_under}
 use Rattle.machine.proofs.rules.terms_of.Goals as goal
 

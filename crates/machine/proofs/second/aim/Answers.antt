@@ -1,6 +1,4 @@
-use borrow.Author.Rules.{rules}
 use mathlib.Core.Path.{sym, ◌∙◌}
-use borrow.Author.Tests.{not-true, not-false}
 use Rattle.machine.specs.MachineContracts.{Grounds, grounds}
 use Rattle.machine.proofs.Answers.{got_value_law, got_refused}
 use Rattle.machine.proofs.StepJudgements.{aim_refused, aim_kind, aim_view}

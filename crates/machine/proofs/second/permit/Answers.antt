@@ -1,15 +1,12 @@
-use borrow.Author.Rules.{rules}
 use mathlib.Core.Path.{◌≡◌, sym, ◌∙◌}
-use mathlib.Core.Logic.{⊎_elim}
 use mathlib.Core.Bool.{true}
-use borrow.Author.Tests.{not-true, not-false}
 use Rattle.calculus.specs.Calculus.{Setting, Store, authorised}
 use Rattle.machine.specs.Answers.{making_by}
 use Rattle.machine.specs.MachineContracts.{grounds, Behind}
 use Rattle.machine.proofs.SlotRows.{row_owner}
 use Rattle.machine.proofs.StepJudgements.{region_unjudged, region_judged, permit_14, permit_16, permit_writes}
 use Rattle.machine.proofs.second.permit.Goals as goal
-use Rattle.machine.proofs.second.permit.Goals.{Joined-regions, else-regions, then-regions}
+use Rattle.machine.proofs.second.permit.Goals.{Joined-regions, else-regions, then-regions+else-not-has_bit}
 
 pub row_of-row-requires : goal.row_of-row-requires
 row_of-row-requires c = c.requires.1
@@ -30,9 +27,9 @@ allowed : (c : Joined-regions) (w : Setting) (s : Store)
     → authorised w c.args.slot ≡ true
 allowed c w s v =
     (elim c.if-regions.branch [
-      | then-regions k ↦ region_judged w _ _ v.serves _ _ _ k.if-regions.true (row_owner _ _ _ (c.row_of-row.ensures w.tables s v.held)) k.1.ensures
-          ∙ not-false _ k.2.left
-      | else-regions k ↦ region_unjudged w _ _ v.serves _ k.left
+      | then-regions+else-not-has_bit k ↦ region_judged w _ _ v.serves _ _ _ k.if-regions.true (row_owner _ _ _ (c.row_of-row.ensures w.tables s v.held)) k.has_bit.ensures
+          ∙ k.if-not-has_bit.false
+      | else-regions k ↦ region_unjudged w _ _ v.serves _ k.if-regions.false
     ])
 
 pub returns-then-not-reliable : goal.returns-then-not-reliable

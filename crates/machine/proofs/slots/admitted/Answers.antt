@@ -1,8 +1,7 @@
-use borrow.Author.Rules.{rules}
 use mathlib.Core.Path.{◌≡◌, sym, ◌∙◌}
 use mathlib.Core.Bool.{true}
 use native.Mathlib.Omega.{arith}
-use borrow.Author.Tests.{eqb-true, not-true, not-false}
+use borrow.Author.Tests.{eqb-true}
 use Rattle.values.specs.declared.Value.{Value}
 use Rattle.values.specs.Value.{write_view, is_write_view}
 use Rattle.machine.proofs.SlotRows.{row_owner}

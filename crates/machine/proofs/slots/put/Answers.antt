@@ -1,5 +1,4 @@
 use native.Mathlib.Omega.{arith}
-use borrow.Author.Rules.{rules}
 use Rattle.machine.proofs.SlotRowWrite.{put_inside}
 use Rattle.machine.proofs.slots.put.Goals as goal
 

@@ -1,4 +1,3 @@
-use borrow.Author.Rules.{rules}
 use Rattle.machine.proofs.SlotRows.{row_at_law}
 use Rattle.machine.proofs.slots.row_of.Goals as goal
 

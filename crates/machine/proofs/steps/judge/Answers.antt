@@ -1,4 +1,3 @@
-use borrow.Author.Rules.{rules}
 use native.Mathlib.Omega.{arith}
 use Rattle.machine.proofs.Answers.{got_value_law, got_refused}
 use Rattle.machine.proofs.StepJudgements.{judge_refused, judge_kind, judge_truth}

@@ -1,7 +1,5 @@
 use mathlib.Core.Path.{sym, ◌∙◌}
 use native.Mathlib.Omega.{arith}
-use borrow.Author.Rules.{rules}
-use borrow.Author.Tests.{not-true, not-false}
 use Rattle.machine.proofs.StepJudgements.{reliable_unjudged, reliable_owner, reliable_floor}
 use Rattle.machine.proofs.steps.reliable.Goals as goal
 
