@@ -50,13 +50,13 @@ module _ {P : List Entry → Store → Entry → Type 0} where
       → Each P b s es → P (b ++ es) (replayed es s) e → Each P b s (es ++ (e ∷ []))
   unfolding replayed
   each_more {b} [] e empty p = next (rw append-nil at p) empty
-  each_more {b} (x ∷ es) e (next q w) p = next q (each_more es e w (rw (append_snoc b x es) p))
+  each_more {b} (x ∷ es) e (next q w) p = next q (each_more {b = b ++ (x ∷ [])} es e w (rw (append_snoc b x es) p))
 
   pub each_parts : {b : List Entry} {s : Store} (fs : List Entry) (e : Entry) (bs : List Entry) → Each P b s (fs ++ (e ∷ bs)) → Parts P b s fs e bs
   unfolding replayed
   each_parts {b} [] e bs (next p w) = record { front = empty; at = rw append-nil p; so_far = _; back = w }
   each_parts {b} (x ∷ fs) e bs (next p w) =
-      let r = each_parts fs e bs w in
+      let r = each_parts {b = b ++ (x ∷ [])} fs e bs w in
       record { front = next p r.front; at = rw (append_snoc b x fs) at r.at; so_far = r.so_far; back = r.back }
 
   pub each_map : {Q : List Entry → Store → Entry → Type 0} → ((b : List Entry) (s : Store) (e : Entry) → P b s e → Q b s e)

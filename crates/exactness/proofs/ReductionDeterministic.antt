@@ -3,17 +3,17 @@ use Prim.Native.Nat.{ℕ, ◌+◌, ◌≤◌, ◌<◌}
 use mathlib.Core.Path.{◌≡◌, refl, ap, ◌∙◌}
 use mathlib.Core.Logic.{◌⊎◌, inl, inr, ⊎_elim}
 use mathlib.Core.Bool.{true≢false}
-use mathlib.Core.List.{List, []}
+use mathlib.Core.List.{List, [], ◌∷◌}
 use native.Mathlib.Omega.{arith}
 use lib.ListN.{length, length-append}
 use Rattle.lattice.specs.Order.{Label}
 use Rattle.values.specs.Result.{Result, ok, refuse}
 use Rattle.syntax.specs.declared.Header.{Header}
-use Rattle.syntax.specs.Syntax.{Expr}
+use Rattle.syntax.specs.Syntax.{Expr, Cmd, cmd, assign, if, while}
 use Rattle.syntax.specs.Sheet.{Block}
 use Rattle.calculus.specs.Calculus.{Limits, State, Memory, state_at, Write, recorded}
 use Rattle.calculus.specs.Blocks.{Halt}
-use Rattle.exactness.specs.Reduction.{Region, Code, done, Config, ⟨◌∣◌∣◌⟩, ◌⊢◌⇝◌, Seq, Seq_2, End, ◌⊢◌⟶◌, If, Else, While_1, While_2, Assign, Stage, before, during, ◌⊩◌⟹◌, Start, Prg_1, Prg_1_silent, Comp_2}
+use Rattle.exactness.specs.Reduction.{Region, Code, done, ◌⨾◌, Config, ⟨◌∣◌∣◌⟩, ◌⊢◌⇝◌, Seq, Seq_2, End, ◌⊢◌⟶◌, If, Else, While_1, While_2, Assign, Stage, before, during, ◌⊩◌⟹◌, Start, Prg_1, Prg_1_silent, Comp_2}
 use Rattle.calculus.specs.Tasks.{Task, judging, assigning}
 use Rattle.exactness.specs.Forbidden.{Tries, Tries_if, Tries_while, Tries_assign, Forbidden, Forbid, Due, Due_17, Due_18}
 use Rattle.exactness.specs.Exactness.{◌⊩◌⟹*◌, here, after, held, Within}
@@ -76,7 +76,11 @@ one_more block at x H = length-append H.journal _
 
 adds_one : {ρ : Region} {H H' : Memory} {PC PC' : List Label} {k k' : Code} {at : ℕ} {pc : Label} {x y : Expr}
     → Tries PC k at (assigning pc x y) → ρ ⊢ ⟨ H ∣ PC ∣ k ⟩ ⟶ ⟨ H' ∣ PC' ∣ k' ⟩ → length H'.journal ≡ length H.journal + 1
-adds_one Tries_assign (Assign p t q a b) = one_more _ _ _ _
+adds_one Tries_assign s = assigned s
+  where
+    assigned : {ρ : Region} {PC : List Label} {k : Code} {at : ℕ} {pc : Label} {x y : Expr} {H H' : Memory} {PC' : List Label} {k' : Code}
+        → ρ ⊢ ⟨ H ∣ pc ∷ PC ∣ cmd at (assign x y) ⨾ k ⟩ ⟶ ⟨ H' ∣ PC' ∣ k' ⟩ → length H'.journal ≡ length H.journal + 1
+    assigned (Assign p t q a b) = one_more _ _ _ _
 
 adds_few : {ρ : Region} {H H' : Memory} {PC PC' : List Label} {k k' : Code} → ρ ⊢ ⟨ H ∣ PC ∣ k ⟩ ⟶ ⟨ H' ∣ PC' ∣ k' ⟩
     → (length H'.journal ≡ length H.journal) ⊎ (length H'.journal ≡ length H.journal + 1)
@@ -102,8 +106,14 @@ one_try Tries_assign Tries_assign = (refl, refl)
 
 -- a guard is no assignment
 pub not_assigning : {PC : List Label} {k : Code} {at at' : ℕ} {g x y : Expr} {pc : Label} → Tries PC k at (judging g) → Tries PC k at' (assigning pc x y) → ⊥
-not_assigning Tries_if = elim [ ]
-not_assigning Tries_while = elim [ ]
+not_assigning Tries_if x = guard x
+  where
+    guard : {PC : List Label} {at at' : ℕ} {g x y : Expr} {c d : Cmd} {k : Code} {pc : Label} → Tries PC (cmd at (if g c d) ⨾ k) at' (assigning pc x y) → ⊥
+    guard = elim [ ]
+not_assigning Tries_while x = guard x
+  where
+    guard : {PC : List Label} {at at' : ℕ} {g x y : Expr} {c : Cmd} {k : Code} {pc : Label} → Tries PC (cmd at (while g c) ⨾ k) at' (assigning pc x y) → ⊥
+    guard = elim [ ]
 
 -- Programmes
 
@@ -235,11 +245,16 @@ module _ {ρ : ℕ → Header → Region} (l : Limits) where
   due_passes (Due_18 x d e) q m = omega (arith, assigned_adds x q)
 
   pub rest_stays : {P Q R : Stage} {r : Result Halt State} → Rests ρ l P r → ρ ⊩ P ⟹ Q → ρ ⊩ Q ⟹* R → Within l (held R) → ⊥
+  rest_stays {Q = Q} {R = R} (finished {i = i} {n = n} {H = H} _) q ps m = elim q [ ]
   rest_stays (forbidden _ x _) q ps m = forbidden_rests x q
   rest_stays (out_of_limits _ x) q ps m = due_passes x q (within_before ps m)
 
   rest_once : {P : Stage} {r r' : Result Halt State} → Rests ρ l P r → Rests ρ l P r' → r ≡ r'
   rest_once (finished _) (finished _) = refl
+  rest_once (finished _) (forbidden _ x' d) = elim x' [ ]
+  rest_once (finished _) (out_of_limits _ x') = elim x' [ ]
+  rest_once (forbidden _ x d) (finished _) = elim x [ ]
+  rest_once (out_of_limits _ x) (finished _) = elim x [ ]
   rest_once (forbidden _ x _) (forbidden _ x' _) = ap refuse (one_forbidden x x')
   rest_once (forbidden _ x d) (out_of_limits _ x') = absurd (d _ x')
   rest_once (out_of_limits _ x) (forbidden _ x' d) = absurd (d _ x)

@@ -6,7 +6,7 @@ ghost use Rattle.lattice.specs.Order.{most_principals, bit, good};
 ghost use Rattle.lattice.specs.Masks.{has_mask, pair_ok, meet_ok, row_ok, rows_ok, line_ok, table_ok};
 
 // An order table: n principals, numbered from 0, and a mask for each. Masks from n on are 0.
-#[derive(Drop)]
+#[derive(Clone, Copy)]
 pub struct Table {
     pub n: usize,
     pub masks: Masks,

@@ -77,6 +77,8 @@ end_same : (blocks slots budget entries entries' : ℕ) (r r' : Result Halted St
 unfolding Alike end_of answer_of output_of pause_of
 end_same blocks slots budget entries entries' (ok s) (ok s') z =
     record { answered = ap (λ (n : ℕ). says 0 blocks 0 n) z.steps; put_out = λ _. rw z.store; put_by = λ _. refl }
+end_same blocks slots budget entries entries' (ok s) (refuse h) z = elim z [ ]
+end_same blocks slots budget entries entries' (refuse g) (ok s') z = elim z [ ]
 end_same blocks slots budget entries entries' (refuse g) (refuse h) z = halt_same slots budget entries entries' g h z
 
 -- a checkpoint that is taken in goes on with the steps that it says

@@ -22,6 +22,8 @@ pub alike_as : {E F E' F' A B : Type 0} (P : A → B → Type 0) (Q : E → F �
     → ((x : E) (y : F) → Q x y → Q' (f x) (f' y)) → (r : Result E A) (r' : Result F B) → Alike P Q r r' → Alike P Q' (refused_as f r) (refused_as f' r')
 unfolding Alike refused_as
 alike_as P Q Q' f f' h (ok a) (ok b) p = p
+alike_as P Q Q' f f' h (ok a) (refuse y) p = elim p [ ]
+alike_as P Q Q' f f' h (refuse x) (ok b) p = elim p [ ]
 alike_as P Q Q' f f' h (refuse x) (refuse y) p = h x y p
 
 module _ {E F A B A' B' : Type 0} (P : A → B → Type 0) (P' : A' → B' → Type 0) (Q : E → F → Type 0) where
@@ -29,6 +31,8 @@ module _ {E F A B A' B' : Type 0} (P : A → B → Type 0) (P' : A' → B' → T
       → Alike P Q r r' → ((a : A) (b : B) → P a b → Alike P' Q (k a) (k' b)) → Alike P' Q (r >>= k) (r' >>= k')
   unfolding Alike ◌>>=◌
   alike_bind (ok a) (ok b) k k' p h = h a b p
+  alike_bind (ok a) (refuse y) k k' p h = elim p [ ]
+  alike_bind (refuse x) (ok b) k k' p h = elim p [ ]
   alike_bind (refuse x) (refuse y) k k' p h = p
 
 -- where the second is refused, so is the first

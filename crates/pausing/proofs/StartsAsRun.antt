@@ -72,6 +72,8 @@ agrees_end : (blocks slots budget entries entries' : ℕ) (r r' : Result Halted 
 unfolding Alike end_of refused_as ◌>>=◌ answer_of run.answer_of output_of run.output_of
 agrees_end blocks slots budget entries entries' (ok s) (ok s') z =
     record { answered = ap (λ (n : ℕ). says 0 blocks 0 n) z.steps; written = λ old _. rw z.store }
+agrees_end blocks slots budget entries entries' (ok s) (refuse h') z = elim z [ ]
+agrees_end blocks slots budget entries entries' (refuse h) (ok s') z = elim z [ ]
 agrees_end blocks slots budget entries entries' (refuse h) (refuse h') z = agrees_halt slots budget entries entries' h h' z
 
 -- a start has room for as many writes as its budget allows

@@ -117,14 +117,14 @@ module _ (w : Setting) (o : Ordered w.tables) (slots : w.tables.slots ≤ most_s
       (λ _ q. q.0) (λ _ q. q.1)) (omega arith)
 
   -- a child's stops
-  in_sequence : (c d : Cmd) (b i : ℕ) (r : Result Pause State) → child c i ≡ in_sequence d → Runs d b r → Runs c b (refused_as (within i b) r)
-  in_sequence c d b i r e h =
+  runs_in_sequence : (c d : Cmd) (b i : ℕ) (r : Result Pause State) → child c i ≡ in_sequence d → Runs d b r → Runs c b (refused_as (within i b) r)
+  runs_in_sequence c d b i r e h =
       post_refused_as _ _ _ _ (post_map _ _ _ _ _ h (λ _ q. q)
       (λ x q. record { state = q.state; number = q.number; leading = leads_in_sequence t c d b i x.path e q.leading }))
 
-  inside_guard : (c d : Cmd) (b l i : ℕ) (r : Result Pause State) → child c i ≡ inside_guard d → at_or_below t l b ≡ true → Runs d l r
+  runs_inside_guard : (c d : Cmd) (b l i : ℕ) (r : Result Pause State) → child c i ≡ inside_guard d → at_or_below t l b ≡ true → Runs d l r
       → Runs c b (refused_as (within i l) r)
-  inside_guard c d b l i r e z h =
+  runs_inside_guard c d b l i r e z h =
       post_refused_as _ _ _ _ (post_map _ _ _ _ _ h (λ _ q. q)
       (λ x q. record { state = q.state; number = q.number; leading = leads_inside_guard t c d b l i x.path e z q.leading }))
 
@@ -160,20 +160,20 @@ module _ (w : Setting) (o : Ordered w.tables) (slots : w.tables.slots ≤ most_s
     body_runs (if g c e) d at b s h f r =
         post_bind _ _ _ _ _ (tried (cmd at (if g c e)) b at s (λ j. j.label < t.n) (judge w s.store g) refl r (guards s.store g)) λ j q.
         post_choose _ _ _ _ _ _
-        (λ _. inside_guard (cmd at (if g c e)) c b (meet t b j.label) 0 _ refl (met b j.label h q.1)
+        (λ _. runs_inside_guard (cmd at (if g c e)) c b (meet t b j.label) 0 _ refl (met b j.label h q.1)
         (play_runs c (d + 1) (meet t b j.label) (counted s) (meet_lt t o.table b j.label h q.1) f.1 (ticks s r q.0)))
-        (λ _. inside_guard (cmd at (if g c e)) e b (meet t b j.label) 1 _ refl (met b j.label h q.1)
+        (λ _. runs_inside_guard (cmd at (if g c e)) e b (meet t b j.label) 1 _ refl (met b j.label h q.1)
         (play_runs e (d + 1) (meet t b j.label) (counted s) (meet_lt t o.table b j.label h q.1) f.2 (ticks s r q.0)))
     body_runs (while g c) d at b s h f r =
         turns (cmd at (while g c)) b at g _ refl
-        (λ l k u q. inside_guard (cmd at (while g c)) c b (meet t b l) 0 _ refl (met b l h k)
+        (λ l k u q. runs_inside_guard (cmd at (while g c)) c b (meet t b l) 0 _ refl (met b l h k)
         (play_runs c (d + 1) (meet t b l) u (meet_lt t o.table b l h k) f.1 q)) (w.limits.budget - s.steps) s r
 
     all_runs : (at : ℕ) (all : Cmds) (i : ℕ) (cs : Cmds) (d : ℕ) (b : Label) (s : State) → b < t.n → FineAll m (d + 1) cs → Running s → Tail all i cs
         → Runs (cmd at (seq all)) b (play_all w cs i b s)
     all_runs at all i nil d b s h f r l = post_ok _ _ _ r
     all_runs at all i (cons c cs) d b s h f r l =
-        post_bind _ _ _ _ _ (in_sequence (cmd at (seq all)) c b i _ (tail_first at all i c cs l) (play_runs c (d + 1) b s h f.0 r))
+        post_bind _ _ _ _ _ (runs_in_sequence (cmd at (seq all)) c b i _ (tail_first at all i c cs l) (play_runs c (d + 1) b s h f.0 r))
         (λ u q. all_runs at all (i + 1) cs d b u h f.1 q (tail_on all i c cs l))
 
   -- Taken up along a path that leads
@@ -186,9 +186,9 @@ module _ (w : Setting) (o : Ordered w.tables) (slots : w.tables.slots ≤ most_s
       → Runs (cmd at (if g c e)) b (choose (eqb k 0) (λ u. refused_as (within 0 x.label) (F u)) (λ u. refused_as (within 1 x.label) (G u)) s)
   unfolding Through child child_of choose at_or_below
   part_runs g c e at b x p F G s zero z f h =
-      inside_guard (cmd at (if g c e)) c b x.label 0 _ refl z.0 (f z.1 (ltb-true _ _ (and_l _ _ z.0)))
+      runs_inside_guard (cmd at (if g c e)) c b x.label 0 _ refl z.0 (f z.1 (ltb-true _ _ (and_l _ _ z.0)))
   part_runs g c e at b x p F G s (suc zero) z f h =
-      inside_guard (cmd at (if g c e)) e b x.label 1 _ refl z.0 (h z.1 (ltb-true _ _ (and_l _ _ z.0)))
+      runs_inside_guard (cmd at (if g c e)) e b x.label 1 _ refl z.0 (h z.1 (ltb-true _ _ (and_l _ _ z.0)))
   part_runs g c e at b x p F G s (suc (suc k)) z f h = absurd z
 
   -- a while
@@ -197,7 +197,7 @@ module _ (w : Setting) (o : Ordered w.tables) (slots : w.tables.slots ≤ most_s
       → Runs (cmd at (while g c)) b (refused_as (within 0 x.label) r)
   unfolding Through child child_of at_or_below
   round_runs g c at b x p r zero z f =
-      inside_guard (cmd at (while g c)) c b x.label 0 _ refl z.0 (f z.1 (ltb-true _ _ (and_l _ _ z.0)))
+      runs_inside_guard (cmd at (while g c)) c b x.label 0 _ refl z.0 (f z.1 (ltb-true _ _ (and_l _ _ z.0)))
   round_runs g c at b x p r (suc k) z f = absurd z
 
   mutual
@@ -229,6 +229,6 @@ module _ (w : Setting) (o : Ordered w.tables) (slots : w.tables.slots ≤ most_s
     taken_all at all i nil k d b x p s h f r l z = absurd z
     taken_all at all i (cons c cs) zero d b x p s h f r l z =
         post_bind _ _ _ _ _
-        (in_sequence (cmd at (seq all)) c b i _ (tail_first at all i c cs l) (taken_runs c (d + 1) b p s h f.0 r (rw z.0 at z.1)))
+        (runs_in_sequence (cmd at (seq all)) c b i _ (tail_first at all i c cs l) (taken_runs c (d + 1) b p s h f.0 r (rw z.0 at z.1)))
         (λ u q. all_runs at all (i + 1) cs d b u h f.1 q (tail_on all i c cs l))
     taken_all at all i (cons c cs) (suc k) d b x p s h f r l z = taken_all at all (i + 1) cs k d b x p s h f.1 r (tail_on all i c cs l) z

@@ -9,7 +9,7 @@ use programme::{Operands, Payloads, Rows};
 use store::{Answer, Held, Opened};
 
 // A run that may begin, where the answer's number is 0: the store that was opened, and what its rule set judges.
-#[derive(Drop)]
+#[derive(Clone, Copy)]
 pub struct Ready {
     pub answer: Answer,
     pub opened: Opened,

@@ -16,7 +16,7 @@ pub use values::{
 };
 
 // What a store sheet opens: its tables, or the number of its refusal.
-#[derive(Drop)]
+#[derive(Clone, Copy)]
 pub struct Opened {
     pub refusal: u32,
     pub slots: usize,

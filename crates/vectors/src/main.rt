@@ -8,11 +8,12 @@ ghost use Rattle.vectors.specs.Cases.{head_of, marked, body_length, most_output,
 
 use printing::{Input, Text};
 use runner::Checkpoint;
+use std::io::Read;
 use store::{Answer, Opened};
 
 // What a case says before its name and its sheets: its kind of call, the arguments of the call, and lengths. `old` and `sheet` are those of the output
 // and the pause sheet that are carried on from.
-#[derive(Drop)]
+#[derive(Clone, Copy)]
 struct Head {
     kind: u64,
     name: usize,
@@ -46,35 +47,58 @@ impl Head {
     const MOST_BODY: usize = 32768;
 }
 
+// Writes bytes to standard output. That a write fails is not told of.
+fn put(rt: &impl Print, bytes: &[u8]) {
+    let _ = rt.write_all(bytes);
+}
+
+// Reads until the buffer is full, the input ends or a read fails: how many bytes it holds then.
+fn read_full(input: &mut impl Read, buffer: &mut [u8]) -> usize
+    ensures { result ≤ length buffer.new }
+{
+    let size = buffer.len();
+    let mut done = 0;
+    while done < size {
+        let Ok(got) = input.read(&mut buffer[done..]) else {
+            break;
+        };
+        if got == 0 {
+            break;
+        }
+        done += got;
+    }
+    done
+}
+
 // Says what is wrong with the list, and answers that it is not read on.
-fn stop(word: &[u8], case: u64) -> bool
+fn stop(rt: &impl Print, word: &[u8], case: u64) -> bool
     ensures { result ≡ false }
 {
-    io::write_all(1, b"list of cases: ");
-    io::write_all(1, word);
-    io::print_decimal(1, case);
-    io::write_all(1, b"\n");
+    put(rt, b"list of cases: ");
+    put(rt, word);
+    let _ = println!(rt; "{case}");
     false
 }
 
 // The answer as the printing program says it, after the case's name.
-fn print_answer(a: Answer) {
+fn print_answer(rt: &impl Print, a: Answer) {
     let mut text = [0u8; Text::FIELDS];
     let end = printing::print_answer(a, &mut text);
-    io::write_all(1, b": ");
-    io::write_all(1, &text[..end]);
+    put(rt, b": ");
+    put(rt, &text[..end]);
 }
 
 // Bytes in hexadecimal, a space before each group of so many.
-fn print_bytes(bytes: &[u8], group: usize)
+fn print_bytes(rt: &impl Print, bytes: &[u8], group: usize)
     requires { 0 < group }
 {
     let mut i = 0;
     while i < bytes.len() {
         if i % group == 0 {
-            io::write_all(1, b" ");
+            put(rt, b" ");
         }
-        io::print_hex(1, store::number_at(bytes, i, 1), 2);
+        let byte = store::number_at(bytes, i, 1);
+        let _ = print!(rt; "{byte:02x}");
         i += 1;
     }
 }
@@ -87,15 +111,15 @@ fn room() -> [u8; Head::MOST_OUTPUT]
 }
 
 // Whether a buffer that was lent still holds what it held then.
-fn print_kept(lent: &[u8])
+fn print_kept(rt: &impl Print, lent: &[u8])
     requires { length lent.now ≤ most_output }
 {
     let size = lent.len();
     let before = room();
-    if check::same(lent, &before[..size]) {
-        io::write_all(1, b" untouched");
+    if lent == &before[..size] {
+        put(rt, b" untouched");
     } else {
-        io::write_all(1, b" changed");
+        put(rt, b" changed");
     }
 }
 
@@ -111,32 +135,32 @@ fn writes_output(kind: u64, number: u32) -> bool {
 }
 
 // The output, where it was written.
-fn print_output(kind: u64, number: u32, out: &[u8])
+fn print_output(rt: &impl Print, kind: u64, number: u32, out: &[u8])
     requires { length out.now ≤ most_output }
 {
-    io::write_all(1, b" output");
+    put(rt, b" output");
     if !writes_output(kind, number) {
-        print_kept(out);
+        print_kept(rt, out);
         return;
     }
     if out.len() == 0 {
-        io::write_all(1, b" empty");
+        put(rt, b" empty");
     }
-    print_bytes(out, Opened::SLOT_WIDTH);
+    print_bytes(rt, out, Opened::SLOT_WIDTH);
 }
 
 // The pause sheet, where it was written. A run has none.
-fn print_pause(kind: u64, number: u32, pause: &[u8])
+fn print_pause(rt: &impl Print, kind: u64, number: u32, pause: &[u8])
     requires { length pause.now ≤ most_output }
 {
     if kind == Head::RUN {
         return;
     }
-    io::write_all(1, b" pause");
+    put(rt, b" pause");
     if number == Answer::BUDGET_SPENT {
-        print_bytes(pause, Checkpoint::WIDTH);
+        print_bytes(rt, pause, Checkpoint::WIDTH);
     } else {
-        print_kept(pause);
+        print_kept(rt, pause);
     }
 }
 
@@ -184,7 +208,7 @@ fn call_body(h: Head, body: &[u8], out: &mut [u8], pause: &mut [u8]) -> Answer
 }
 
 // Makes a case's call into what is lent, and prints its line.
-fn play_case(h: Head, body: &[u8], out: &mut [u8], pause: &mut [u8])
+fn play_case(rt: &impl Print, h: Head, body: &[u8], out: &mut [u8], pause: &mut [u8])
     requires fits { Fits h }
     requires body_len { length body.now ≡ body_length h }
     requires out_len_bound { (length out.old ≤ most_output) × (length pause.old ≤ most_output) }
@@ -192,15 +216,15 @@ fn play_case(h: Head, body: &[u8], out: &mut [u8], pause: &mut [u8])
     let name = h.name;
     let kind = h.kind;
     let a = call_body(h, body, out, pause);
-    io::write_all(1, &body[..name]);
-    print_answer(a);
-    print_output(kind, a.number, out);
-    print_pause(kind, a.number, pause);
-    io::write_all(1, b"\n");
+    put(rt, &body[..name]);
+    print_answer(rt, a);
+    print_output(rt, kind, a.number, out);
+    print_pause(rt, kind, a.number, pause);
+    put(rt, b"\n");
 }
 
 // Lends a case's call an output and a pause buffer of the lengths that it says.
-fn lend(h: Head, body: &[u8])
+fn lend(rt: &impl Print, h: Head, body: &[u8])
     requires fits { Fits h }
     requires body_len { length body.now ≡ body_length h }
 {
@@ -208,18 +232,18 @@ fn lend(h: Head, body: &[u8])
     let width = h.pause;
     let mut out = room();
     let mut pause = room();
-    play_case(h, body, &mut out[..size], &mut pause[..width]);
+    play_case(rt, h, body, &mut out[..size], &mut pause[..width]);
 }
 
 // Whether a case starts with its mark.
 fn is_marked(s: &[u8; Head::WIDTH]) -> bool
-    ensures { result ≡ marked s.entry.now }
+    ensures { result ≡ marked s.now }
 {
     store::number_at(s, 0, 4) == Head::MARK
 }
 
 fn head_of(s: &[u8; Head::WIDTH]) -> Head
-    ensures { result ≡ head_of s.entry.now }
+    ensures { result ≡ head_of s.now }
 {
     let kind = store::number_at(s, 4, 1);
     let name = store::number_at(s, 5, 1) as usize;
@@ -298,76 +322,81 @@ fn body_room() -> [u8; Head::MOST_BODY]
 }
 
 // Fills `body` with a case's name and sheets and plays it; answers whether they were there.
-fn fill_and_play(case: u64, h: Head, body: &mut [u8]) -> bool
+fn fill_and_play(
+    rt: &impl Print,
+    input: &mut impl Read,
+    case: u64,
+    h: Head,
+    body: &mut [u8],
+) -> bool
     requires fits { Fits h }
     requires body_len { length body.old ≡ body_length h }
 {
-    let got = io::read_full(0, body);
+    let got = read_full(input, body);
     if got < body.len() {
-        return stop(b"cut off in case ", case);
+        return stop(rt, b"cut off in case ", case);
     }
-    lend(h, body);
+    lend(rt, h, body);
     true
 }
 
 // Reads the rest of a case whose lengths are within their limits, and plays it; answers whether it was there.
-fn play_body(case: u64, h: Head) -> bool
+fn play_body(rt: &impl Print, input: &mut impl Read, case: u64, h: Head) -> bool
     requires { Fits h }
 {
     let size = h.name + h.store + h.programme + h.old + h.sheet;
     let mut body = body_room();
-    fill_and_play(case, h, &mut body[..size])
+    fill_and_play(rt, input, case, h, &mut body[..size])
 }
 
 // Reads and plays the next case; answers whether it was one.
-fn play_next(case: u64) -> bool {
+fn play_next(rt: &impl Print, input: &mut impl Read, case: u64) -> bool {
     let mut bytes = [0u8; Head::WIDTH];
-    let got = io::read_full(0, &mut bytes);
+    let got = read_full(input, &mut bytes);
     if got < Head::WIDTH {
-        return stop(b"cut off in case ", case);
+        return stop(rt, b"cut off in case ", case);
     }
     if !is_marked(&bytes) {
-        return stop(b"no mark at the start of case ", case);
+        return stop(rt, b"no mark at the start of case ", case);
     }
     let h = head_of(&bytes);
     if Head::CARRY_ON < h.kind {
-        return stop(b"no kind of call in case ", case);
+        return stop(rt, b"no kind of call in case ", case);
     }
     if !fits(h) {
-        return stop(b"a length past its limit in case ", case);
+        return stop(rt, b"a length past its limit in case ", case);
     }
-    play_body(case, h)
+    play_body(rt, input, case, h)
 }
 
 // Plays so many cases; answers whether all of them were there.
-fn play_all(count: u64) -> bool {
+fn play_all(rt: &impl Print, input: &mut impl Read, count: u64) -> bool {
     let mut case = 0;
     while case < count {
         case += 1;
-        if !play_next(case) {
+        if !play_next(rt, input, case) {
             return false;
         }
     }
     true
 }
 
-fn main() {
+fn main(rt: HostRuntime) {
+    let mut input = rt.stdin();
     let mut start = [0u8; 2];
-    let got = io::read_full(0, &mut start);
+    let got = read_full(&mut input, &mut start);
     if got < Head::COUNT {
-        stop(b"cut off before its cases, at byte ", got as u64);
+        stop(&rt, b"cut off before its cases, at byte ", got as u64);
         return;
     }
     let count = store::number_at(&start, 0, 2);
-    if !play_all(count) {
+    if !play_all(&rt, &mut input, count) {
         return;
     }
     let mut after = [0u8; 1];
-    if io::read_full(0, &mut after) != 0 {
-        stop(b"bytes left over after case ", count);
+    if read_full(&mut input, &mut after) != 0 {
+        stop(&rt, b"bytes left over after case ", count);
         return;
     }
-    io::write_all(1, b"cases played: ");
-    io::print_decimal(1, count);
-    io::write_all(1, b"\n");
+    let _ = println!(rt; "cases played: {count}");
 }

@@ -2,7 +2,6 @@ use mathlib.Core.List.{[]}
 use native.Mathlib.Omega.{arith}
 use Rattle.reader.proofs.CodeReaderRoom.{can_go, bytes_on, small}
 use Rattle.reader.proofs.CodeReaderBodies.{value_on, target_refused, value_refused, assign_read}
-use borrow.Author.Rules.{rules}
 use Rattle.reader.proofs.expression.read_assign.Goals as goal
 
 pub read_expr-requires : goal.read_expr-requires

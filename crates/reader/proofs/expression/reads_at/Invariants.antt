@@ -1,8 +1,6 @@
 use Prim.Native.Nat.{ℕ, ◌+◌, ◌-◌, ◌<◌, ◌≤◌}
 use mathlib.Core.Path.{◌≡◌}
-use native.Mathlib.Omega.{arith}
 use lib.ListN.{length, get_or}
-use Rattle.reader.proofs.CodeReaderReads.{each_more}
 use Rattle.reader.proofs.expression.reads_at.Given as goal
 
 abbrev pub invariant-loop-reads : goal.invariant-loop-reads

@@ -1,7 +1,6 @@
 use Prim.Native.Nat.{◌+◌, ◌≤◌}
 use native.Mathlib.Omega.{arith}
 use lib.ListN.{length}
-use borrow.Author.Rules.{rules}
 use Rattle.values.specs.Value.{value_width}
 use Rattle.reader.proofs.CodeReaderValues.{literal_refused, literal_read, value_within}
 use Rattle.reader.proofs.literals.read_literal.Goals as goal

@@ -1,7 +1,6 @@
 use native.Mathlib.Omega.{arith}
 use mathlib.Core.Path.{sym, ◌∙◌}
 use Rattle.reader.proofs.CodeReaderValues.{value_none, value_unknown, value_short, value_good_law, value_bad}
-use borrow.Author.Rules.{rules}
 use Rattle.reader.proofs.literals.read_value.Goals as goal
 
 pub returns-then-size-at : goal.returns-then-size-at

@@ -1,0 +1,19 @@
+use Prim.Native.Nat.{◌<◌}
+use native.Mathlib.Omega.{arith}
+use Rattle.syntax.proofs.RunningStarts.{length_read, count_small}
+use Rattle.programme.proofs.length_at.Goals as goal
+use Rattle.programme.proofs.length_at.Goals.{After-number_at-k}
+
+few : (c : After-number_at-k) → c.number_at-k.result < 256
+few c = count_small _ _ (λ j. (c.type_inv.sheet j).fits) c.number_at-k.ensures
+
+pub overflow_add-k : goal.overflow_add-k
+overflow_add-k c = omega (arith, few c)
+
+pub overflow_add-k-2 : goal.overflow_add-k-2
+overflow_add-k-2 c = omega (arith, few c)
+
+pub returns : goal.returns
+returns c =
+    let b = c in
+    length_read _ _ _ _ (λ j. (b.type_inv.sheet j).fits) b.number_at-k.ensures c.number_at.ensures

@@ -1,0 +1,15 @@
+use mathlib.Core.Path.{◌≡◌}
+use native.Mathlib.Omega.{arith}
+use Rattle.syntax.proofs.RunningStarts.{running_first, running_next}
+use Rattle.programme.proofs.lengths_sum.Goals as goal
+
+pub loop-i-init : goal.loop-i-init
+loop-i-init c = (omega arith, running_first _, omega arith)
+
+pub loop-i-preserved : goal.loop-i-preserved
+loop-i-preserved c = (omega arith, running_next _ _ _ _ c.loop-i.invariant.1 c.length_at-sum.ensures.0, omega arith)
+
+pub returns : goal.returns
+returns c =
+    let e : c.loop-i.i ≡ c.args.k = omega arith in
+    rw e at c.loop-i.invariant.1
