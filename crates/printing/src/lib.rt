@@ -45,6 +45,7 @@ fn store_length(rest: &[u8]) -> usize
 }
 
 // How many slots the end store has, where there is one.
+#[tactic(auto, using(crate::proofs::InputSizes::few, crate::proofs::InputSizes::many))]
 fn slots_of(sheet: &[u8]) -> usize
     ensures { (result ≡ slots_of sheet.now) × (result ≤ most_slots) }
 {
