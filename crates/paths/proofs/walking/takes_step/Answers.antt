@@ -12,4 +12,4 @@ pub returns-in-34 : goal.returns-in-34
 returns-in-34 c = seq_steps _ _ c.in-34.is
 
 pub returns-in_default : goal.returns-in_default
-returns-in_default c = let r = c.in_default.rest in other_steps _ _ r.0.1 r.1
+returns-in_default c = let r = c.in_default.in_default-own.rest in other_steps _ _ r.0.1 r.1
