@@ -47,9 +47,8 @@ pub trace-returns-in-36 : goal.trace-returns-in-36
 trace-returns-in-36 t c = c.trace_while.ensures
 
 pub trace-returns-then-i-rows : goal.trace-returns-then-i-rows
-trace-returns-then-i-rows t c x s = let r = c.in_default.in_default-own.rest in
-    let y = c.span_at-next.ensures x s.sits.end s.sits.lies in
-    search_here _ _ _ s (omega (arith, y.1, c.if-i-rows.true)) (other_here _ _ _ _ r.0.0.1 r.0.1 r.1 _ _ x s)
+trace-returns-then-i-rows t c x s = let y = c.span_at-next.ensures x s.sits.end s.sits.lies in
+    search_here _ _ _ s (omega (arith, y.1, c.if-i-rows.true)) (other_here c.args.code.now c.args.at c.args.i c.args.len (omega arith) (omega arith) (omega arith) _ _ x s)
 
 pub trace-returns-else-i-rows : goal.trace-returns-else-i-rows
 trace-returns-else-i-rows t c x s = let y = c.span_at-next.ensures x s.sits.end s.sits.lies in

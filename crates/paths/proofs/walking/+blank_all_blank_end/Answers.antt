@@ -63,4 +63,4 @@ pub blank_end-returns-in-34 : goal.blank_end-returns-in-34
 blank_end-returns-in-34 t c = seq_blank _ _ _ _ c.in-34.is c.wide8.ensures c.blank_all.ensures
 
 pub blank_end-returns-in_default : goal.blank_end-returns-in_default
-blank_end-returns-in_default t c = let r = c.in_default.in_default-own.rest in other_blank _ _ r.0.1 r.1
+blank_end-returns-in_default t c = other_blank c.args.code.now c.args.at (omega arith) (omega arith)

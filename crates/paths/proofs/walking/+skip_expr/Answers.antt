@@ -23,10 +23,10 @@ pub overflow_add-at-in_default : goal.overflow_add-at-in_default
 overflow_add-at-in_default t c = omega (arith, expr_inside _ _ c.requires)
 
 pub skip_expr-right-requires : goal.skip_expr-right-requires
-skip_expr-right-requires t c = (omega (arith, c.decreases, expr_inside _ _ c.requires), some_left _ _ c.in_default.in_default-own.rest.0.1 c.in_default.in_default-own.rest.1 c.requires)
+skip_expr-right-requires t c = (omega (arith, c.decreases, expr_inside _ _ c.requires), some_left c.args.code.now c.args.at (omega arith) (omega arith) c.requires)
 
 pub skip_expr-requires-in_default : goal.skip_expr-requires-in_default
-skip_expr-requires-in_default t c = let r = some_right _ _ c.in_default.in_default-own.rest.0.1 c.in_default.in_default-own.rest.1 _ c.skip_expr-right.ensures c.requires in
+skip_expr-requires-in_default t c = let r = some_right c.args.code.now c.args.at (omega arith) (omega arith) _ c.skip_expr-right.ensures c.requires in
     (omega (arith, c.decreases, expr_inside _ _ c.requires, r.1), r.0)
 
 pub returns-in-16 : goal.returns-in-16
@@ -36,4 +36,4 @@ pub returns-in-17 : goal.returns-in-17
 returns-in-17 t c = read_ends _ _ _ c.in-17.is c.skip_expr.ensures
 
 pub returns-in_default : goal.returns-in_default
-returns-in_default t c = operation_ends _ _ c.in_default.in_default-own.rest.0.1 c.in_default.in_default-own.rest.1 _ _ c.skip_expr-right.ensures c.skip_expr-in_default.ensures
+returns-in_default t c = operation_ends c.args.code.now c.args.at (omega arith) (omega arith) _ _ c.skip_expr-right.ensures c.skip_expr-in_default.ensures

@@ -73,22 +73,19 @@ pub span_at-overflow_add-at-in_default : goal.span_at-overflow_add-at-in_default
 span_at-overflow_add-at-in_default t c = omega (arith, some_within _ c.requires)
 
 pub span_at-skip_expr-body-requires : goal.span_at-skip_expr-body-requires
-span_at-skip_expr-body-requires t c = let r = c.in_default.in_default-own.rest in (while_guard _ _ r.0.0.0.1 r.0.0.1 r.0.1 r.1 0 c.requires).0
+span_at-skip_expr-body-requires t c = (while_guard c.args.code.now c.args.at (omega arith) (omega arith) (omega arith) (omega arith) 0 c.requires).0
 
 pub span_at-span_at-inner-requires : goal.span_at-span_at-inner-requires
-span_at-span_at-inner-requires t c = let r = c.in_default.in_default-own.rest in
-    let p = c.requires in
-    let g = (while_guard _ _ r.0.0.0.1 r.0.0.1 r.0.1 r.1 _ p).1 c.skip_expr-body.ensures in
+span_at-span_at-inner-requires t c = let p = c.requires in
+    let g = (while_guard c.args.code.now c.args.at (omega arith) (omega arith) (omega arith) (omega arith) _ p).1 c.skip_expr-body.ensures in
     (omega (arith, c.decreases, g.1, some_within _ p), g.0)
 
 pub span_at-overflow_add-result-in_default : goal.span_at-overflow_add-result-in_default
-span_at-overflow_add-result-in_default t c = let r = c.in_default.in_default-own.rest in
-    let b = span_within _ _ _ _ (while_span _ _ r.0.0.0.1 r.0.0.1 r.0.1 r.1 _ c.skip_expr-body.ensures _ _ c.span_at-inner.ensures) c.requires in
+span_at-overflow_add-result-in_default t c = let b = span_within _ _ _ _ (while_span c.args.code.now c.args.at (omega arith) (omega arith) (omega arith) (omega arith) _ c.skip_expr-body.ensures _ _ c.span_at-inner.ensures) c.requires in
     omega (arith, b.0, b.1)
 
 pub span_at-overflow_add-result-in_default-2 : goal.span_at-overflow_add-result-in_default-2
-span_at-overflow_add-result-in_default-2 t c = let r = c.in_default.in_default-own.rest in
-    let b = span_within _ _ _ _ (while_span _ _ r.0.0.0.1 r.0.0.1 r.0.1 r.1 _ c.skip_expr-body.ensures _ _ c.span_at-inner.ensures) c.requires in
+span_at-overflow_add-result-in_default-2 t c = let b = span_within _ _ _ _ (while_span c.args.code.now c.args.at (omega arith) (omega arith) (omega arith) (omega arith) _ c.skip_expr-body.ensures _ _ c.span_at-inner.ensures) c.requires in
     omega (arith, b.0, b.1)
 
 pub span_at-returns-in-32 : goal.span_at-returns-in-32
@@ -104,8 +101,7 @@ pub span_at-returns-in-35 : goal.span_at-returns-in-35
 span_at-returns-in-35 t c = c.span_if.ensures
 
 pub span_at-returns-in_default : goal.span_at-returns-in_default
-span_at-returns-in_default t c = let r = c.in_default.in_default-own.rest in
-    while_span _ _ r.0.0.0.1 r.0.0.1 r.0.1 r.1 _ c.skip_expr-body.ensures _ _ c.span_at-inner.ensures
+span_at-returns-in_default t c = while_span c.args.code.now c.args.at (omega arith) (omega arith) (omega arith) (omega arith) _ c.skip_expr-body.ensures _ _ c.span_at-inner.ensures
 
 pub span_if-overflow_add-at : goal.span_if-overflow_add-at
 span_if-overflow_add-at t c = omega (arith, some_within _ c.requires.0)
