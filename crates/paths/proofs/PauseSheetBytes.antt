@@ -5,7 +5,7 @@ use mathlib.Core.List.{List, [], ◌∷◌, ◌++◌, map, append_assoc, append-
 use native.Mathlib.Omega.{arith}
 use native.Mathlib.Numerals.{add-one}
 use lib.ListN.{length, get_or, set, replicate, drop, length-append, length-replicate, replicate-append-replicate, length-map, drop_of_length-le}
-use lib.Seq.{set_at, drop_cons}
+use lib.Seq.{set_at, drop-cons}
 use Rattle.values.specs.Bytes.{number_bytes}
 use Rattle.calculus.specs.Calculus.{State}
 use Rattle.pausing.specs.Paths.{Open}
@@ -94,7 +94,7 @@ pub cleared_on : (s t : List ℕ) (i : ℕ) → length s ≡ pause_width → i <
 cleared_on s t i h k e =
     let z : i < length s = omega arith in
     let y : i + 1 ≡ suc i = add-one i in
-    ap (λ (u : List ℕ). set u i 0) (e ∙ ap (λ (u : List ℕ). replicate i 0 ++ u) (drop_cons s i 0 z))
+    ap (λ (u : List ℕ). set u i 0) (e ∙ ap (λ (u : List ℕ). replicate i 0 ++ u) (drop-cons s i 0 z))
     ∙ set_at (replicate i 0) (get_or s i 0) (drop (suc i) s) 0 i (length-replicate i 0)
     ∙ sym (append_assoc (replicate i 0) (0 ∷ []) (drop (suc i) s))
     ∙ ap (λ (u : List ℕ). u ++ drop (suc i) s) (sym (zeros_last i))

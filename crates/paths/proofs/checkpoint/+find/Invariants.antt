@@ -8,10 +8,6 @@ use Rattle.paths.proofs.CodeLayout.{lies_within}
 use Rattle.paths.proofs.SheetPaths.{few_principals, Gone, gone, labels_set, arrived, no_step, lost, further}
 use Rattle.paths.proofs.checkpoint.+find.Given as goal
 
--- MEASURE: -- The measure is how many entries are left.
--- 
--- abbrev μ-find : Measures 3 find-kinds.ps ℕ
--- μ-find κs a = a.1.1.1.1.0 - a.1.1.1.1.1.1.0
-
+-- The measure is how many entries are left.
 abbrev pub decreases-find : goal.decreases-find
-decreases-find l = ?
+decreases-find l = l.size - l.i

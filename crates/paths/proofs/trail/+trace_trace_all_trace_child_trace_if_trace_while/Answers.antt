@@ -17,13 +17,13 @@ pub trace-bounds-code-at : goal.trace-bounds-code-at
 trace-bounds-code-at t c = some_within _ (stands c.requires.seeks)
 
 pub trace-trace_all-requires : goal.trace-trace_all-requires
-trace-trace_all-requires t c = let p = c.requires in (omega (arith, p.0), (p.1, c.in-34.is))
+trace-trace_all-requires t c = let p = c.requires in (omega (arith, c.decreases), (p, c.in-34.is))
 
 pub trace-trace_if-requires : goal.trace-trace_if-requires
-trace-trace_if-requires t c = let p = c.requires in (omega (arith, p.0), (p.1, c.in-35.is))
+trace-trace_if-requires t c = let p = c.requires in (omega (arith, c.decreases), (p, c.in-35.is))
 
 pub trace-trace_while-requires : goal.trace-trace_while-requires
-trace-trace_while-requires t c = let p = c.requires in (omega (arith, p.0), (p.1, c.in-36.is))
+trace-trace_while-requires t c = let p = c.requires in (omega (arith, c.decreases), (p, c.in-36.is))
 
 pub trace-span_at-next-requires : goal.trace-span_at-next-requires
 trace-span_at-next-requires t c = stands c.requires.seeks
@@ -47,9 +47,8 @@ pub trace-returns-in-36 : goal.trace-returns-in-36
 trace-returns-in-36 t c = c.trace_while.ensures
 
 pub trace-returns-then-i-rows : goal.trace-returns-then-i-rows
-trace-returns-then-i-rows t c x s = let r = c.in_default.rest in
-    let y = c.span_at-next.ensures x s.sits.end s.sits.lies in
-    search_here _ _ _ s (omega (arith, y.1, c.if-i-rows.true)) (other_here _ _ _ _ r.0.0.1 r.0.1 r.1 _ _ x s)
+trace-returns-then-i-rows t c x s = let y = c.span_at-next.ensures x s.sits.end s.sits.lies in
+    search_here _ _ _ s (omega (arith, y.1, c.if-i-rows.true)) (other_here c.args.code.now c.args.at c.args.i c.args.len (omega arith) (omega arith) (omega arith) _ _ x s)
 
 pub trace-returns-else-i-rows : goal.trace-returns-else-i-rows
 trace-returns-else-i-rows t c x s = let y = c.span_at-next.ensures x s.sits.end s.sits.lies in
@@ -69,10 +68,10 @@ trace_all-loop-child-init t c = let p = c.requires in (omega arith, omega arith,
 
 pub trace_all-trace_child-requires : goal.trace_all-trace_child-requires
 trace_all-trace_child-requires t c = let p = c.requires in
-    let q = p.1.0 in
+    let q = p.0 in
     let i = c.loop-child.invariant in
     let r = rest_next _ c.loop-child-test.true (i.5 q.command q.seeks) in (
-      omega (arith, p.0, i.0, some_within _ (stands q.seeks)),
+      omega (arith, c.decreases, i.0, some_within _ (stands q.seeks)),
       record { command = r.first; seeks = r.seeks; sheet_size = ap length i.3 ∙ q.sheet_size; deep = omega (arith, q.deep) },
     )
 
@@ -133,7 +132,7 @@ pub trace_child-overflow_add-len : goal.trace_child-overflow_add-len
 trace_child-overflow_add-len t c = omega (arith, seeks_few c.requires.seeks)
 
 pub trace_child-trace-requires : goal.trace_child-trace-requires
-trace_child-trace-requires t c = let p = c.requires in (omega (arith, p.0), p.1)
+trace_child-trace-requires t c = let p = c.requires in (omega (arith, c.decreases), p)
 
 pub trace_child-bounds-names-d : goal.trace_child-bounds-names-d
 trace_child-bounds-names-d t c = let p = c.requires in omega (arith, p.deep, seeks_few p.seeks)
@@ -173,10 +172,10 @@ trace_if-overflow_add-d t c = let p = c.requires.0 in omega (arith, p.deep, seek
 
 pub trace_if-trace_child-requires : goal.trace_if-trace_child-requires
 trace_if-trace_child-requires t c = let p = c.requires in
-    let o = p.1.0 in
-    let v = branches _ _ _ _ _ p.1.1 c.if-i-eq0.false c.skip_expr-there.ensures o.command o.seeks in
-    let g = (if_guard _ _ p.1.1 _ (stands o.seeks)).1 c.skip_expr-there.ensures in (
-      omega (arith, p.0, g.1, some_within _ (stands o.seeks)),
+    let o = p.0 in
+    let v = branches _ _ _ _ _ p.1 c.if-i-eq0.false c.skip_expr-there.ensures o.command o.seeks in
+    let g = (if_guard _ _ p.1 _ (stands o.seeks)).1 c.skip_expr-there.ensures in (
+      omega (arith, c.decreases, g.1, some_within _ (stands o.seeks)),
       record { command = v.first; seeks = v.seeks; sheet_size = o.sheet_size; deep = omega (arith, o.deep) },
     )
 
@@ -264,10 +263,10 @@ trace_while-overflow_add-d t c = let p = c.requires.0 in omega (arith, p.deep, s
 
 pub trace_while-trace_child-requires : goal.trace_while-trace_child-requires
 trace_while-trace_child-requires t c = let p = c.requires in
-    let o = p.1.0 in
-    let v = inner _ _ _ _ _ p.1.1 c.if-i-eq0.false c.skip_expr-there.ensures o.command o.seeks in
-    let g = (body_guard _ _ p.1.1 _ (stands o.seeks)).1 c.skip_expr-there.ensures in (
-      omega (arith, p.0, g.1, some_within _ (stands o.seeks)),
+    let o = p.0 in
+    let v = inner _ _ _ _ _ p.1 c.if-i-eq0.false c.skip_expr-there.ensures o.command o.seeks in
+    let g = (body_guard _ _ p.1 _ (stands o.seeks)).1 c.skip_expr-there.ensures in (
+      omega (arith, c.decreases, g.1, some_within _ (stands o.seeks)),
       record { command = v.body; seeks = v.seeks; sheet_size = o.sheet_size; deep = omega (arith, o.deep) },
     )
 

@@ -13,41 +13,21 @@ use Rattle.paths.proofs.TraceBranches.{stands, branches, elsewhere, body_guard, 
 use Rattle.paths.proofs.TraceSequence.{Rest, rest_all, rest_next, rest_none, left_first, left_next}
 use Rattle.paths.proofs.trail.+trace_trace_all_trace_child_trace_if_trace_while.Given as goal
 
--- MEASURE: -- The measure is what of the code is left, and at one place the order of the calls.
--- 
--- abbrev μ-trace : Measures 3 trace-kinds.ps ℕ
--- μ-trace κs a = 3 * (length a.0.now - a.1.1.1.0) + 1
-
--- MEASURE: 
--- abbrev μ-trace-all : Measures 3 trace-all-kinds.ps ℕ
--- μ-trace-all κs a = 3 * (length a.0.now - a.1.1.1.0)
-
--- MEASURE: 
--- abbrev μ-trace-child : Measures 3 trace-child-kinds.ps ℕ
--- μ-trace-child κs a = 3 * (length a.0.now - a.1.1.1.0) + 2
-
--- MEASURE: 
--- abbrev μ-trace-if : Measures 3 trace-if-kinds.ps ℕ
--- μ-trace-if κs a = 3 * (length a.0.now - a.1.1.1.0)
-
--- MEASURE: 
--- abbrev μ-trace-while : Measures 3 trace-while-kinds.ps ℕ
--- μ-trace-while κs a = 3 * (length a.0.now - a.1.1.1.0)
-
+-- The measure is what of the code is left, and at one place the order of the calls.
 abbrev pub decreases-trace : goal.decreases-trace
-decreases-trace l = ?
+decreases-trace l = 3 * (length l.code.now - l.at) + 1
 
 abbrev pub decreases-trace_all : goal.decreases-trace_all
-decreases-trace_all l = ?
+decreases-trace_all l = 3 * (length l.code.now - l.at)
 
 abbrev pub decreases-trace_child : goal.decreases-trace_child
-decreases-trace_child l = ?
+decreases-trace_child l = 3 * (length l.code.now - l.at) + 2
 
 abbrev pub decreases-trace_if : goal.decreases-trace_if
-decreases-trace_if l = ?
+decreases-trace_if l = 3 * (length l.code.now - l.at)
 
 abbrev pub decreases-trace_while : goal.decreases-trace_while
-decreases-trace_while l = ?
+decreases-trace_while l = 3 * (length l.code.now - l.at)
 
 -- the row is to be looked for in the commands from here on, and those before had as many rows as were counted off
 abbrev pub invariant-trace_all-loop-child : goal.invariant-trace_all-loop-child

@@ -14,9 +14,9 @@ blank_all-loop-left-init t c = (omega arith, λ end total h. h)
 pub blank_all-blank_end-next-requires : goal.blank_all-blank_end-next-requires
 blank_all-blank_end-next-requires t c = let p = c.requires in
     let i = c.loop-left.invariant in
-    let l = i.1 p.1.end p.1.total p.1.left in
+    let l = i.1 p.end p.total p.left in
     let b = left_bound _ _ _ _ _ _ l in
-    (omega (arith, p.0, i.0, b.0, b.1, c.loop-left-test.true), left_some _ _ _ _ _ _ c.loop-left-test.true l)
+    (omega (arith, c.decreases, i.0, b.0, b.1, c.loop-left-test.true), left_some _ _ _ _ _ _ c.loop-left-test.true l)
 
 pub blank_all-returns-then-next-eq0 : goal.blank_all-returns-then-next-eq0
 blank_all-returns-then-next-eq0 t c end total h = left_some_rows _ _ _ _ _ _ c.loop-left-test.true c.blank_end-next.ensures c.if-next-eq0.true (c.loop-left.invariant.1 end total h)
@@ -54,7 +54,7 @@ blank_end-bounds-code-at-in-34 t c = seq_second _ _ c.in-34.is c.requires
 
 pub blank_end-blank_all-requires : goal.blank_end-blank_all-requires
 blank_end-blank_all-requires t c = let p = c.requires in
-    (omega (arith, p.0, seq_second _ _ c.in-34.is p.1), some_all _ _ c.in-34.is _ c.wide8.ensures p.1)
+    (omega (arith, c.decreases, seq_second _ _ c.in-34.is p), some_all _ _ c.in-34.is _ c.wide8.ensures p)
 
 pub blank_end-returns-in-32 : goal.blank_end-returns-in-32
 blank_end-returns-in-32 t c = skip_blank _ _ c.in-32.is
@@ -63,4 +63,4 @@ pub blank_end-returns-in-34 : goal.blank_end-returns-in-34
 blank_end-returns-in-34 t c = seq_blank _ _ _ _ c.in-34.is c.wide8.ensures c.blank_all.ensures
 
 pub blank_end-returns-in_default : goal.blank_end-returns-in_default
-blank_end-returns-in_default t c = let r = c.in_default.rest in other_blank _ _ r.0.1 r.1
+blank_end-returns-in_default t c = other_blank c.args.code.now c.args.at (omega arith) (omega arith)

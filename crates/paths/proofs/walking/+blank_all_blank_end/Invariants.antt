@@ -8,20 +8,12 @@ use Rattle.paths.proofs.CodeExtents.{some_all, seq_second, span_within, left_som
 use Rattle.paths.proofs.CodeBlanks.{skip_blank, seq_blank, other_blank, blank_skips, left_some_rows, left_no_rows}
 use Rattle.paths.proofs.walking.+blank_all_blank_end.Given as goal
 
--- MEASURE: -- The measure is what of the code is left, and at one place the order of the calls.
--- 
--- abbrev μ-blank-all : Measures 1 blank-all-kinds.ps ℕ
--- μ-blank-all κs a = 2 * (length a.0.now - a.1.0) + 1
-
--- MEASURE: 
--- abbrev μ-blank-end : Measures 1 blank-end-kinds.ps ℕ
--- μ-blank-end κs a = 2 * (length a.0.now - a.1.0)
-
+-- The measure is what of the code is left, and at one place the order of the calls.
 abbrev pub decreases-blank_all : goal.decreases-blank_all
-decreases-blank_all l = ?
+decreases-blank_all l = 2 * (length l.code.now - l.at) + 1
 
 abbrev pub decreases-blank_end : goal.decreases-blank_end
-decreases-blank_end l = ?
+decreases-blank_end l = 2 * (length l.code.now - l.at)
 
 -- what is left from here on is what was left from the first on, and there were no rows
 abbrev pub invariant-blank_all-loop-left : goal.invariant-blank_all-loop-left

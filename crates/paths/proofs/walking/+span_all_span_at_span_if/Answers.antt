@@ -13,9 +13,9 @@ span_all-loop-left-init t c = (omega arith, λ end total h. h)
 pub span_all-span_at-next-requires : goal.span_all-span_at-next-requires
 span_all-span_at-next-requires t c = let p = c.requires in
     let i = c.loop-left.invariant in
-    let l = i.1 p.1.end p.1.total p.1.left in
+    let l = i.1 p.end p.total p.left in
     let b = left_bound _ _ _ _ _ _ l in
-    (omega (arith, p.0, i.0, b.0, b.1, c.loop-left-test.true), left_some _ _ _ _ _ _ c.loop-left-test.true l)
+    (omega (arith, c.decreases, i.0, b.0, b.1, c.loop-left-test.true), left_some _ _ _ _ _ _ c.loop-left-test.true l)
 
 pub span_all-overflow_add-rows : goal.span_all-overflow_add-rows
 span_all-overflow_add-rows t c = let p = c.requires in
@@ -64,31 +64,28 @@ span_at-bounds-code-at-in-34 t c = seq_second _ _ c.in-34.is c.requires
 
 pub span_at-span_all-requires : goal.span_at-span_all-requires
 span_at-span_all-requires t c = let p = c.requires in
-    (omega (arith, p.0, seq_second _ _ c.in-34.is p.1), some_all _ _ c.in-34.is _ c.wide8.ensures p.1)
+    (omega (arith, c.decreases, seq_second _ _ c.in-34.is p), some_all _ _ c.in-34.is _ c.wide8.ensures p)
 
 pub span_at-span_if-requires : goal.span_at-span_if-requires
-span_at-span_if-requires t c = let p = c.requires in (omega (arith, p.0), (p.1, c.in-35.is))
+span_at-span_if-requires t c = let p = c.requires in (omega (arith, c.decreases), (p, c.in-35.is))
 
 pub span_at-overflow_add-at-in_default : goal.span_at-overflow_add-at-in_default
 span_at-overflow_add-at-in_default t c = omega (arith, some_within _ c.requires)
 
 pub span_at-skip_expr-body-requires : goal.span_at-skip_expr-body-requires
-span_at-skip_expr-body-requires t c = let r = c.in_default.rest in (while_guard _ _ r.0.0.0.1 r.0.0.1 r.0.1 r.1 0 c.requires).0
+span_at-skip_expr-body-requires t c = (while_guard c.args.code.now c.args.at (omega arith) (omega arith) (omega arith) (omega arith) 0 c.requires).0
 
 pub span_at-span_at-inner-requires : goal.span_at-span_at-inner-requires
-span_at-span_at-inner-requires t c = let r = c.in_default.rest in
-    let p = c.requires in
-    let g = (while_guard _ _ r.0.0.0.1 r.0.0.1 r.0.1 r.1 _ p.1).1 c.skip_expr-body.ensures in
-    (omega (arith, p.0, g.1, some_within _ p.1), g.0)
+span_at-span_at-inner-requires t c = let p = c.requires in
+    let g = (while_guard c.args.code.now c.args.at (omega arith) (omega arith) (omega arith) (omega arith) _ p).1 c.skip_expr-body.ensures in
+    (omega (arith, c.decreases, g.1, some_within _ p), g.0)
 
 pub span_at-overflow_add-result-in_default : goal.span_at-overflow_add-result-in_default
-span_at-overflow_add-result-in_default t c = let r = c.in_default.rest in
-    let b = span_within _ _ _ _ (while_span _ _ r.0.0.0.1 r.0.0.1 r.0.1 r.1 _ c.skip_expr-body.ensures _ _ c.span_at-inner.ensures) c.requires in
+span_at-overflow_add-result-in_default t c = let b = span_within _ _ _ _ (while_span c.args.code.now c.args.at (omega arith) (omega arith) (omega arith) (omega arith) _ c.skip_expr-body.ensures _ _ c.span_at-inner.ensures) c.requires in
     omega (arith, b.0, b.1)
 
 pub span_at-overflow_add-result-in_default-2 : goal.span_at-overflow_add-result-in_default-2
-span_at-overflow_add-result-in_default-2 t c = let r = c.in_default.rest in
-    let b = span_within _ _ _ _ (while_span _ _ r.0.0.0.1 r.0.0.1 r.0.1 r.1 _ c.skip_expr-body.ensures _ _ c.span_at-inner.ensures) c.requires in
+span_at-overflow_add-result-in_default-2 t c = let b = span_within _ _ _ _ (while_span c.args.code.now c.args.at (omega arith) (omega arith) (omega arith) (omega arith) _ c.skip_expr-body.ensures _ _ c.span_at-inner.ensures) c.requires in
     omega (arith, b.0, b.1)
 
 pub span_at-returns-in-32 : goal.span_at-returns-in-32
@@ -104,8 +101,7 @@ pub span_at-returns-in-35 : goal.span_at-returns-in-35
 span_at-returns-in-35 t c = c.span_if.ensures
 
 pub span_at-returns-in_default : goal.span_at-returns-in_default
-span_at-returns-in_default t c = let r = c.in_default.rest in
-    while_span _ _ r.0.0.0.1 r.0.0.1 r.0.1 r.1 _ c.skip_expr-body.ensures _ _ c.span_at-inner.ensures
+span_at-returns-in_default t c = while_span c.args.code.now c.args.at (omega arith) (omega arith) (omega arith) (omega arith) _ c.skip_expr-body.ensures _ _ c.span_at-inner.ensures
 
 pub span_if-overflow_add-at : goal.span_if-overflow_add-at
 span_if-overflow_add-at t c = omega (arith, some_within _ c.requires.0)
@@ -115,14 +111,14 @@ span_if-skip_expr-part-requires t c = let p = c.requires in (if_guard _ _ p.1 0 
 
 pub span_if-span_at-first-requires : goal.span_if-span_at-first-requires
 span_if-span_at-first-requires t c = let p = c.requires in
-    let g = (if_guard _ _ p.1.1 _ p.1.0).1 c.skip_expr-part.ensures in
-    (omega (arith, p.0, g.1, some_within _ p.1.0), g.0)
+    let g = (if_guard _ _ p.1 _ p.0).1 c.skip_expr-part.ensures in
+    (omega (arith, c.decreases, g.1, some_within _ p.0), g.0)
 
 pub span_if-span_at-second-requires : goal.span_if-span_at-second-requires
 span_if-span_at-second-requires t c = let p = c.requires in
-    let g = (if_guard _ _ p.1.1 _ p.1.0).1 c.skip_expr-part.ensures in
-    let e = some_else _ _ p.1.1 _ c.skip_expr-part.ensures _ _ c.span_at-first.ensures p.1.0 in
-    (omega (arith, p.0, g.1, e.1, some_within _ p.1.0), e.0)
+    let g = (if_guard _ _ p.1 _ p.0).1 c.skip_expr-part.ensures in
+    let e = some_else _ _ p.1 _ c.skip_expr-part.ensures _ _ c.span_at-first.ensures p.0 in
+    (omega (arith, c.decreases, g.1, e.1, some_within _ p.0), e.0)
 
 pub span_if-overflow_add-result : goal.span_if-overflow_add-result
 span_if-overflow_add-result t c = let p = c.requires in

@@ -7,27 +7,15 @@ use Rattle.paths.proofs.CodeLayout.{some_within}
 use Rattle.paths.proofs.CodeExtents.{skip_span, assign_span, some_target, some_value, seq_span, some_all, seq_second, if_guard, some_else, if_span, while_guard, while_span, span_within, left_some, left_on, left_bound, left_none}
 use Rattle.paths.proofs.walking.+span_all_span_at_span_if.Given as goal
 
--- MEASURE: -- The measure is what of the code is left, and at one place the order of the calls.
--- 
--- abbrev μ-span-all : Measures 1 span-all-kinds.ps ℕ
--- μ-span-all κs a = 2 * (length a.0.now - a.1.0) + 2
-
--- MEASURE: 
--- abbrev μ-span-at : Measures 1 span-at-kinds.ps ℕ
--- μ-span-at κs a = 2 * (length a.0.now - a.1.0) + 1
-
--- MEASURE: 
--- abbrev μ-span-if : Measures 1 span-if-kinds.ps ℕ
--- μ-span-if κs a = 2 * (length a.0.now - a.1.0)
-
+-- The measure is what of the code is left, and at one place the order of the calls.
 abbrev pub decreases-span_all : goal.decreases-span_all
-decreases-span_all l = ?
+decreases-span_all l = 2 * (length l.code.now - l.at) + 2
 
 abbrev pub decreases-span_at : goal.decreases-span_at
-decreases-span_at l = ?
+decreases-span_at l = 2 * (length l.code.now - l.at) + 1
 
 abbrev pub decreases-span_if : goal.decreases-span_if
-decreases-span_if l = ?
+decreases-span_if l = 2 * (length l.code.now - l.at)
 
 -- what is left from here on is what was left from the first on
 abbrev pub invariant-span_all-loop-left : goal.invariant-span_all-loop-left

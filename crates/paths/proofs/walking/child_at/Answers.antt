@@ -47,4 +47,4 @@ pub returns-else-k-eq0 : goal.returns-else-k-eq0
 returns-else-k-eq0 c = while_nowhere _ _ _ c.in-36.is c.if-k-eq0.false
 
 pub returns-in_default : goal.returns-in_default
-returns-in_default c = let r = c.in_default.rest in other_nowhere _ _ _ r.0.0.1 r.0.1 r.1
+returns-in_default c = other_nowhere c.args.code.now c.args.at c.args.k (omega arith) (omega arith) (omega arith)

@@ -1,3 +1,4 @@
+use native.Mathlib.Omega.{arith}
 use Rattle.paths.proofs.CodeLayout.{some_within}
 use Rattle.paths.proofs.CodeParts.{skip_steps, seq_steps, other_steps}
 use Rattle.paths.proofs.walking.takes_step.Goals as goal
@@ -12,4 +13,4 @@ pub returns-in-34 : goal.returns-in-34
 returns-in-34 c = seq_steps _ _ c.in-34.is
 
 pub returns-in_default : goal.returns-in_default
-returns-in_default c = let r = c.in_default.rest in other_steps _ _ r.0.1 r.1
+returns-in_default c = other_steps c.args.code.now c.args.at (omega arith) (omega arith)
