@@ -6,7 +6,6 @@ use native.Mathlib.Omega.{arith}
 use native.Mathlib.Decide.{ℕ_discrete, dec_lt}
 use lib.ListN.{length, get_or, take, drop, length-append}
 use lib.Seq.{take-append_seam, drop-append_seam, take_at}
-use Rattle.lattice.specs.Order.{top}
 use Rattle.lattice.proofs.Order.{good_at}
 use Rattle.values.specs.declared.Entry.{Entry}
 use Rattle.values.specs.Result.{Result, ok, refuse, ◌>>=◌, refused_as}

@@ -10,8 +10,4 @@ pub mod StretchLocate
 pub mod StretchPlay
 pub mod StretchTakeUp
 pub mod StretchCalls
-pub mod MirSliceReborrow
-pub mod MirLocals
-pub mod MirTypes
 pub mod JournalReplay
-pub mod RunContract
