@@ -1,7 +1,7 @@
 # Builds the libraries and the command, and installs them. For GNU make.
 #
-#   make                          target/staticlib/libcapi.a, if it is missing or older than its sources (`rt staticlib capi` proves it, in
-#                                 some minutes), the shared library in target/lib, and the command
+#   make                          target/staticlib/libcapi.a, if it is missing or older than its sources (`rt lib` proves it, in some minutes),
+#                                 the shared library in target/lib, and the command
 #   make install PREFIX=/usr      what `make` has built, and nothing else
 #   make uninstall PREFIX=/usr    takes the same files away
 #   make check-install            installs into a temporary folder, tries what is there, and uninstalls
@@ -55,14 +55,20 @@ own_static := $(CURDIR)/target/staticlib
 MUNTYZHAP_LIB_DIR ?= $(own_static)
 export MUNTYZHAP_LIB_DIR
 static := $(MUNTYZHAP_LIB_DIR)/libcapi.a
-proved := capi $(shell sed -n 's/^capi: *//p' crates.txt)
-proved_sources := crates.txt $(shell find $(proved:%=crates/%) -name must-fail -prune -o -type f -print)
+# `capi` and the crates below it, down to the lowest: crates.txt has each after those that it names.
+proved := $(shell tac crates.txt | awk -F: 'BEGIN { used["capi"] } { split($$1, words, " ") } \
+  words[1] in used { print words[1]; n = split($$2, named, " "); for (i = 1; i <= n; i++) used[named[i]] }')
+parts := $(wildcard $(foreach part,src specs proofs,$(proved:%=crates/%/$(part))))
+$(if $(parts),,$(error crates.txt has no line for capi))
+proved_sources := crates.txt $(shell find $(parts) -type f)
 
 static: $(static)
 
 $(own_static)/libcapi.a: $(proved_sources)
 	$(call need,$(RT),the Rattle toolchain proves and compiles the static library. MUNTYZHAP_LIB_DIR may name a folder that has libcapi.a)
-	$(RT) staticlib capi
+	cd crates/capi && $(RT) lib
+	@mkdir -p $(own_static)
+	cp crates/capi/out/libcapi.a $@
 
 ifneq ($(MUNTYZHAP_LIB_DIR),$(own_static))
 $(static):

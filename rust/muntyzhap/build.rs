@@ -33,7 +33,7 @@ fn main() {
 
 fn missing(file: &Path) -> String {
     format!(
-        "the library {} is missing: `rt staticlib {LIBRARY}` in muntyzhap's repository writes it to \
+        "the library {} is missing: `make static` in muntyzhap's repository writes it to \
          target/staticlib, and {FOLDER_VARIABLE} may name another folder",
         file.display()
     )

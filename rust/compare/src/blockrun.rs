@@ -6,9 +6,9 @@ use std::path::{Path, PathBuf};
 use std::process::{ChildStdin, Command, ExitStatus, Stdio};
 use std::thread;
 
-/// Where the program is, if not in the repository's own build folder.
+/// Where the program is, if not where `rt run` and `rt ci` put it.
 const PATH_VARIABLE: &str = "MUNTYZHAP_BLOCKRUN";
-const PATH: &str = "../../target/bin/blockrun";
+const PATH: &str = "../../crates/blockrun/out/blockrun";
 
 /// What is seen of the program.
 #[derive(Debug, Clone)]
@@ -73,7 +73,7 @@ fn write_to(mut stdin: ChildStdin, input: &[u8]) -> io::Result<bool> {
 fn in_words(path: &Path, what: &str, error: io::Error) -> io::Error {
     let path = path.display();
     let words = format!(
-        "{path} {what} ({error}): run `rt check blockrun`, \
+        "{path} {what} ({error}): run `rt run` in crates/blockrun, \
          or set {PATH_VARIABLE} to where the program is"
     );
     io::Error::new(error.kind(), words)
@@ -110,6 +110,6 @@ mod tests {
     fn a_program_that_cannot_be_run_is_an_error() {
         let path = PathBuf::from("no such program");
         let error = Program { path }.print(&[]).expect_err("no program");
-        assert!(error.to_string().contains("rt check blockrun"), "{error}");
+        assert!(error.to_string().contains("rt run"), "{error}");
     }
 }

@@ -24,7 +24,7 @@ fn assert_told(played: &Output, words: &[&str]) {
 #[test]
 fn a_program_that_is_not_there_is_told() {
     let played = play("/no/such/program");
-    assert_told(&played, &["/no/such/program", "`rt check blockrun`"]);
+    assert_told(&played, &["/no/such/program", "`rt run` in crates/blockrun"]);
 }
 
 /// This program itself: without arguments it prints nothing and fails.

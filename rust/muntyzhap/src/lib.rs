@@ -1,6 +1,6 @@
 //! The proved runner for Rust programs.
 //!
-//! It links the static library that `rt staticlib capi` writes (without it a
+//! It links the static library that `make static` makes (without it a
 //! program can be checked, but not built) and wraps its seven calls:
 //! [`check_store`], [`check_table`], [`check_programme`] and [`run`], for runs that
 //! can be paused [`start`] and [`carry_on`], and [`version`]. A refusal is a
