@@ -1,7 +1,6 @@
-use Prim.Native.Nat.{ℕ, ◌+◌, ◌-◌, ◌≤◌, ◌<◌}
+use Prim.Native.Nat.{ℕ, ◌+◌, ◌≤◌}
 use native.Mathlib.Omega.{arith}
 use lib.Seq.{get_or-set_same}
-use borrow.Author.Rules.{rules}
 use Rattle.syntax.specs.Code.{most_deep}
 use Rattle.pausing.specs.Stretches.{entry_in}
 use Rattle.paths.proofs.CodeLayout.{lies_within}

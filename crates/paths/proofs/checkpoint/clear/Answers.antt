@@ -1,8 +1,6 @@
-use Prim.Native.Nat.{◌-◌, ◌≤◌}
 use mathlib.Core.Path.{◌≡◌, refl, sym, ap, ◌∙◌}
-use mathlib.Core.List.{◌++◌}
 use native.Mathlib.Omega.{arith}
-use lib.ListN.{length, length-set, drop}
+use lib.ListN.{length-set}
 use Rattle.pausing.specs.Stretches.{pause_width}
 use Rattle.paths.proofs.PauseSheetBytes.{zeros, cleared_on, cleared_all}
 use Rattle.paths.proofs.checkpoint.clear.Goals as goal

@@ -1,10 +1,9 @@
 use Prim.Native.Nat.{◌-◌, ◌≤◌}
-use mathlib.Core.Path.{◌≡◌, refl, sym, ap, ◌∙◌}
+use mathlib.Core.Path.{◌≡◌}
 use mathlib.Core.List.{◌++◌}
-use native.Mathlib.Omega.{arith}
-use lib.ListN.{length, length-set, drop}
+use lib.ListN.{length, drop}
 use Rattle.pausing.specs.Stretches.{pause_width}
-use Rattle.paths.proofs.PauseSheetBytes.{zeros, cleared_on, cleared_all}
+use Rattle.paths.proofs.PauseSheetBytes.{zeros}
 use Rattle.paths.proofs.checkpoint.clear.Given as goal
 
 abbrev pub invariant-loop-i : goal.invariant-loop-i

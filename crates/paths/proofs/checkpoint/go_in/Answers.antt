@@ -2,7 +2,6 @@ use Prim.Native.Nat.{ℕ, ◌+◌}
 use mathlib.Core.Path.{ap, ◌∙◌}
 use native.Mathlib.Omega.{arith}
 use lib.ListN.{get_or}
-use borrow.Author.Rules.{rules}
 use Rattle.pausing.specs.Stretches.{labels_at}
 use Rattle.paths.proofs.SheetPaths.{few_principals, entry_inside, entry_unfit, entry_nowhere}
 use Rattle.paths.proofs.checkpoint.go_in.Goals as goal

@@ -1,6 +1,5 @@
 use mathlib.Core.Path.{◌∙◌}
 use native.Mathlib.Omega.{arith}
-use borrow.Author.Rules.{rules}
 use Rattle.paths.proofs.SheetPaths.{fits_equal, fits_below, fits_not}
 use Rattle.paths.proofs.checkpoint.label_fits.Goals as goal
 

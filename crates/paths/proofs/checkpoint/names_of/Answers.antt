@@ -1,11 +1,6 @@
-use Prim.Native.Nat.{ℕ, ◌+◌, ◌-◌, ◌<◌}
-use mathlib.Core.Path.{◌≡◌, refl}
-use mathlib.Core.List.{List}
+use mathlib.Core.Path.{refl}
 use native.Mathlib.Omega.{arith}
-use lib.ListN.{length, get_or, length-set}
-use Rattle.lattice.specs.Order.{Label}
-use Rattle.syntax.specs.Code.{most_deep}
-use Rattle.pausing.specs.RowPaths.{LabelsHeld}
+use lib.ListN.{length-set}
 use Rattle.paths.proofs.SheetPaths.{names_more, names_all}
 use Rattle.paths.proofs.checkpoint.names_of.Goals as goal
 

@@ -1,12 +1,10 @@
 use Prim.Native.Nat.{ℕ, ◌+◌, ◌-◌, ◌<◌}
-use mathlib.Core.Path.{◌≡◌, refl}
+use mathlib.Core.Path.{◌≡◌}
 use mathlib.Core.List.{List}
-use native.Mathlib.Omega.{arith}
-use lib.ListN.{length, get_or, length-set}
+use lib.ListN.{length, get_or}
 use Rattle.lattice.specs.Order.{Label}
 use Rattle.syntax.specs.Code.{most_deep}
 use Rattle.pausing.specs.RowPaths.{LabelsHeld}
-use Rattle.paths.proofs.SheetPaths.{names_more, names_all}
 use Rattle.paths.proofs.checkpoint.names_of.Given as goal
 
 abbrev pub invariant-loop-j : goal.invariant-loop-j

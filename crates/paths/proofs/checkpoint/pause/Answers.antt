@@ -1,7 +1,6 @@
 use mathlib.Core.Path.{sym, ◌∙◌}
 use native.Mathlib.Omega.{arith}
 use lib.ListN.{length-set}
-use borrow.Author.Rules.{rules}
 use Rattle.paths.proofs.TraceSearch.{search_whole, search_past, search_there}
 use Rattle.paths.proofs.TraceBranches.{block_seeks, not_past, traced_as}
 use Rattle.paths.proofs.PauseSheetBytes.{cleared_width, paused}

@@ -1,8 +1,6 @@
 use Prim.Native.Nat.{ℕ, ◌-◌, ◌<◌}
-use mathlib.Core.Path.{◌≡◌, refl, sym, ◌∙◌}
-use native.Mathlib.Omega.{arith}
+use mathlib.Core.Path.{◌≡◌}
 use lib.ListN.{get_or}
-use Rattle.paths.proofs.SheetPaths.{one_mask, few_principals, none_more}
 use Rattle.paths.proofs.checkpoint.principal.Given as goal
 
 abbrev pub invariant-loop-j : goal.invariant-loop-j

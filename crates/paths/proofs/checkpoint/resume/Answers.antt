@@ -1,6 +1,5 @@
 use mathlib.Core.Path.{sym, ◌∙◌}
 use native.Mathlib.Omega.{arith}
-use borrow.Author.Rules.{rules}
 use Rattle.paths.proofs.CodeReadBlock.{block_lies}
 use Rattle.paths.proofs.CheckpointResume.{too_long, not_clear, resumed}
 use Rattle.paths.proofs.checkpoint.resume.Goals as goal

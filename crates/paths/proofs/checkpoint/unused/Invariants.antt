@@ -1,12 +1,9 @@
 use Prim.Native.Nat.{◌+◌, ◌-◌, ◌≤◌}
-use mathlib.Core.Path.{◌≡◌, refl, sym}
+use mathlib.Core.Path.{◌≡◌}
 use mathlib.Core.Bool.{true}
-use native.Mathlib.Omega.{arith}
 use lib.ListN.{get_or}
 use lib.Dec.{eqb}
-use borrow.Author.Tests.{eq-eqb, ne_eqb}
 use Rattle.lattice.specs.Tests.{every}
-use Rattle.lattice.proofs.Tests.{every_out, every_more, every_done}
 use Rattle.paths.proofs.checkpoint.unused.Given as goal
 
 abbrev pub invariant-loop-i : goal.invariant-loop-i

@@ -1,16 +1,13 @@
-use Prim.Native.Nat.{ℕ, ◌+◌, ◌-◌, ◌*◌, ◌<◌, ◌≤◌}
-use mathlib.Core.Path.{◌≡◌, refl, ap, ◌∙◌}
+use Prim.Native.Nat.{◌+◌, ◌-◌}
+use mathlib.Core.Path.{refl, ap, ◌∙◌}
 use native.Mathlib.Omega.{arith}
 use lib.ListN.{length, length-set}
-use borrow.Author.Rules.{rules}
-use Rattle.syntax.specs.Syntax.{Cmd}
-use Rattle.paths.specs.CodeLayout.{Left}
-use Rattle.paths.specs.SheetPaths.{Seeks, SearchAs}
+use Rattle.paths.specs.SheetPaths.{SearchAs}
 use Rattle.paths.proofs.CodeLayout.{some_within}
 use Rattle.paths.proofs.CodeExtents.{seq_span, seq_second, if_guard, if_span, span_within, left_none}
 use Rattle.paths.proofs.TraceSearch.{seeks_few, rows_within, search_width, search_past, search_there, search_here, search_written, search_unwritten, search_has}
 use Rattle.paths.proofs.TraceBranches.{stands, branches, elsewhere, body_guard, body_span, inner, further_on, if_here, while_here, other_here}
-use Rattle.paths.proofs.TraceSequence.{Rest, rest_all, rest_next, rest_none, left_first, left_next}
+use Rattle.paths.proofs.TraceSequence.{rest_all, rest_next, rest_none, left_first, left_next}
 use Rattle.paths.proofs.trail.+trace_trace_all_trace_child_trace_if_trace_while.Goals as goal
 
 pub trace-bounds-code-at : goal.trace-bounds-code-at

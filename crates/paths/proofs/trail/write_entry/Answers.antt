@@ -1,6 +1,5 @@
 use native.Mathlib.Omega.{arith}
 use lib.ListN.{length-set}
-use borrow.Author.Rules.{rules}
 use Rattle.paths.proofs.trail.write_entry.Goals as goal
 
 pub bounds-sheet-size : goal.bounds-sheet-size

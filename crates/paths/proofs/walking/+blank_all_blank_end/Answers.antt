@@ -1,8 +1,4 @@
-use Prim.Native.Nat.{ℕ, ◌+◌, ◌-◌, ◌*◌, ◌<◌, ◌≤◌}
 use native.Mathlib.Omega.{arith}
-use lib.ListN.{length}
-use borrow.Author.Rules.{rules}
-use Rattle.paths.specs.CodeLayout.{Left}
 use Rattle.paths.proofs.CodeLayout.{some_within}
 use Rattle.paths.proofs.CodeExtents.{some_all, seq_second, span_within, left_some, left_on, left_bound}
 use Rattle.paths.proofs.CodeBlanks.{skip_blank, seq_blank, other_blank, blank_skips, left_some_rows, left_no_rows}

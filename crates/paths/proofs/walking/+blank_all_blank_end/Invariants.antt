@@ -1,11 +1,6 @@
-use Prim.Native.Nat.{ℕ, ◌+◌, ◌-◌, ◌*◌, ◌<◌, ◌≤◌}
-use native.Mathlib.Omega.{arith}
+use Prim.Native.Nat.{ℕ, ◌+◌, ◌-◌, ◌*◌, ◌≤◌}
 use lib.ListN.{length}
-use borrow.Author.Rules.{rules}
 use Rattle.paths.specs.CodeLayout.{Left}
-use Rattle.paths.proofs.CodeLayout.{some_within}
-use Rattle.paths.proofs.CodeExtents.{some_all, seq_second, span_within, left_some, left_on, left_bound}
-use Rattle.paths.proofs.CodeBlanks.{skip_blank, seq_blank, other_blank, blank_skips, left_some_rows, left_no_rows}
 use Rattle.paths.proofs.walking.+blank_all_blank_end.Given as goal
 
 -- The measure is what of the code is left, and at one place the order of the calls.

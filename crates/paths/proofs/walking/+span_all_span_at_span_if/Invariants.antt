@@ -1,10 +1,6 @@
-use Prim.Native.Nat.{ℕ, ◌+◌, ◌-◌, ◌*◌, ◌<◌, ◌≤◌}
-use native.Mathlib.Omega.{arith}
+use Prim.Native.Nat.{ℕ, ◌+◌, ◌-◌, ◌*◌, ◌≤◌}
 use lib.ListN.{length}
-use borrow.Author.Rules.{rules}
 use Rattle.paths.specs.CodeLayout.{Left}
-use Rattle.paths.proofs.CodeLayout.{some_within}
-use Rattle.paths.proofs.CodeExtents.{skip_span, assign_span, some_target, some_value, seq_span, some_all, seq_second, if_guard, some_else, if_span, while_guard, while_span, span_within, left_some, left_on, left_bound, left_none}
 use Rattle.paths.proofs.walking.+span_all_span_at_span_if.Given as goal
 
 -- The measure is what of the code is left, and at one place the order of the calls.

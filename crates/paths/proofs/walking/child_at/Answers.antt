@@ -1,5 +1,4 @@
 use native.Mathlib.Omega.{arith}
-use borrow.Author.Rules.{rules}
 use Rattle.paths.proofs.CodeLayout.{some_within}
 use Rattle.paths.proofs.CodeExtents.{seq_second, while_guard}
 use Rattle.paths.proofs.CodeParts.{seq_can, seq_inside, seq_nowhere, body_inside, while_nowhere, other_nowhere}

@@ -1,4 +1,3 @@
-use borrow.Author.Rules.{rules}
 use Rattle.paths.proofs.CodeBlanks.{jump_some, jump_not}
 use Rattle.paths.proofs.walking.jump_before.Goals as goal
 

@@ -1,4 +1,3 @@
-use borrow.Author.Rules.{rules}
 use Rattle.paths.proofs.CodeReadBlock.{block_lies}
 use Rattle.paths.proofs.walking.rows_in.Goals as goal
 
