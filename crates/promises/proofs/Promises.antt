@@ -26,7 +26,7 @@ use Rattle.isolation.proofs.NotEnoughUnderCapability.{chosen_worked, not_enough_
 use Rattle.isolation.proofs.EndorsedNotIsolated.{endorsed_worked, floor_worked, endorsed_not_isolated, not_isolated_at_floors, not_isolated_below_floors}
 use Rattle.isolation.proofs.UnrelatedProtected.{unrelated_protected}
 use Rattle.calculus.proofs.Floors.{judged_by_meet, floors_ignored}
-use Rattle.calculus.proofs.Vectors.{vectors_hold, descents_hold, faults_hold, misreadings_hold, operations_hold, floors_hold, journals_hold}
+use Rattle.calculus.proofs.Vectors.{vectors_hold, vectors_of_rule_0_hold, descents_hold, faults_hold, misreadings_hold, operations_hold, floors_hold, journals_hold}
 use Rattle.pausing.proofs.PathsAside.{paths_aside}
 use Rattle.pausing.proofs.StartsAsRun.{starts_as_run}
 use Rattle.pausing.proofs.NeverPaused.{never_paused}
@@ -48,6 +48,7 @@ promises =
       while_law = while_law;
       steps_bounded = steps_bounded;
       vectors_hold = vectors_hold;
+      vectors_of_rule_0_hold = vectors_of_rule_0_hold;
       faults_hold = faults_hold;
       misreadings_hold = misreadings_hold;
       isolated = isolated;

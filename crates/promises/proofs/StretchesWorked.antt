@@ -15,11 +15,11 @@ use Rattle.calculus.specs.Blocks.{halt_answer, start}
 use Rattle.calculus.specs.Counts.{total}
 use Rattle.pausing.specs.Paths.{rounds, play, play_body, play_all, take_up, take_up_body, take_up_all, child_in, child_of, child, steps_body, takes_step, at_or_below, leads}
 use Rattle.pausing.specs.Stretches.{pause_sheet, unused_zero, slot_in, store_in, output_good, path_good, checkpoint_good, take_up_blocks, settled, end_of, limits_at, run_from, fitting, position_of, stretch_opened, stretch_under, run_stretch, answer_of, output_of, pause_of}
-use Rattle.promises.specs.StretchesWorked.{places, budgets, values, changes, noted_of, StretchesHold}
+use Rattle.promises.specs.StretchesWorked.{places, budgets, values, changes, StretchesHold}
 use Rattle.promises.specs.CheckpointsWorked.{paths, labels, unused, contents, lengths, order, CheckpointsHold}
 
 computed : StretchesHold × CheckpointsHold
-unfolding noted_of places budgets values changes paths labels unused contents lengths order
+unfolding places budgets values changes paths labels unused contents lengths order
     pause_sheet unused_zero slot_in store_in output_good path_good checkpoint_good take_up_blocks settled end_of limits_at run_from fitting position_of stretch_opened stretch_under run_stretch answer_of output_of pause_of
     rounds play play_body play_all take_up take_up_body take_up_all child_in child_of child steps_body takes_step at_or_below leads total
     ◌and◌ ◌or◌ ◌implies◌ every some find bit in_range reflexive antisymmetric transitive is_meet has_meets is_top has_top good meet top

@@ -15,7 +15,7 @@ use Rattle.exactness.specs.StepByStep.{StepByStep}
 use Rattle.isolation.specs.SlotsAtEveryStep.{CapabilitySafety, WriteIntegrity}
 use Rattle.calculus.specs.Steps.{WhileLaw, StepsBounded}
 use Rattle.isolation.specs.ConfusedDeputy.{ProvenanceSafety, ProvenanceSafetyDownToFloors, CapabilityDeputySafety, DeputySafety, DeputySafetyDownToFloors, FullDeputySafety, FullDeputySafetyDownToFloors, NoninterferenceSuffices, IsolationSuffices, IsolationSufficesDownToFloors}
-use Rattle.calculus.specs.Vectors.{VectorsHold}
+use Rattle.calculus.specs.Vectors.{VectorsHold, VectorsOfRule0Hold}
 use Rattle.isolation.specs.UnrelatedProtected.{UnrelatedProtected}
 use Rattle.isolation.specs.EndorsedNotIsolated.{EndorsedIsolation, IsolationAtFloors, IsolationBelowFloors, EndorsedWorked, FloorWorked}
 use Rattle.isolation.specs.WholeRunNotSafe.{WholeRunSafety, WholeWorked}
@@ -46,6 +46,8 @@ pub record Promises : Type 0 where
   pub while_law : WhileLaw
   pub steps_bounded : StepsBounded
   pub vectors_hold : VectorsHold
+  -- P9 under rule 0 finishes
+  pub vectors_of_rule_0_hold : VectorsOfRule0Hold
   pub faults_hold : FaultsHold
   pub misreadings_hold : MisreadingsHold
   -- Demand 3: isolation under full provenance, of all the rule numbers that mean it. An unrelated owner's slot is protected.

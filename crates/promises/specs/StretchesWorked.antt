@@ -2,11 +2,11 @@
 -- buffer then hold. Assumes nothing.
 use Rattle.std.specs.Prelude.{ℕ, ◌-◌, ◌*◌, ◌≡◌, List, [], ◌∷◌, ◌++◌, map, length, replicate}
 use Rattle.values.specs.declared.Answer.{Answer}
-use Rattle.values.specs.Result.{Result, ok, refuse, says}
+use Rattle.values.specs.Result.{says}
 use Rattle.calculus.specs.Vectors.{blank, int, bool, reads, writes, value, wrote, kept, two_slots, opening, flagged, assign, lit, read, while, block, sheet_of, none, one, both, branches, branch_at}
 use Rattle.calculus.specs.OperationsWorked.{counts}
 use Rattle.calculus.specs.JournalsWorked.{thrice}
-use Rattle.pausing.specs.Stretches.{From, checkpoint, Stretch, stretch, Ended, answer_of, output_of, pause_of, run_stretch}
+use Rattle.pausing.specs.Stretches.{From, checkpoint, Stretch, stretch, answer, output, pause}
 
 -- a call of the entry point that starts, or of the one that carries on; its answer; what both buffers then hold
 pub record Worked : Type 0 where
@@ -214,12 +214,8 @@ pub record Noted : Type 0 where
   pub left : List ℕ
   pub paused : List ℕ
 
-unfoldable pub noted_of : Result Answer Ended → Noted
-noted_of (ok e) = record { said = answer_of (ok e); left = output_of (ok e) blank; paused = pause_of (ok e) lent }
-noted_of (refuse a) = record { said = answer_of (refuse a); left = output_of (refuse a) blank; paused = pause_of (refuse a) lent }
-
 abbrev pub noted : Worked → Noted
-noted x = noted_of (run_stretch x.from x.call)
+noted x = record { said = answer x.from x.call; left = output x.from x.call blank; paused = pause x.from x.call lent }
 
 abbrev pub foreseen : Worked → Noted
 foreseen x = record { said = x.answer; left = x.output; paused = x.pause }

@@ -99,7 +99,6 @@ fn single_blocks() -> Vec<Case> {
             .block(0, put_view)
             .rule(1)
             .refused(15, 0, 0, 0),
-        branch("P9 rule 0", choice).finishes(2, &[kept(truth(true)), once(integer(41))]),
         branch("P9 rule 2", choice)
             .rule(2)
             .finishes(2, &[kept(truth(true)), once(integer(41))]),

@@ -1,3 +1,4 @@
+use borrow.Author.Rules.{rules}
 use mathlib.Core.Path.{◌≡◌}
 use native.Mathlib.Omega.{arith}
 use Rattle.syntax.proofs.RunningStarts.{running_first, running_next}
@@ -7,7 +8,7 @@ pub loop-i-init : goal.loop-i-init
 loop-i-init c = (omega arith, running_first _, omega arith)
 
 pub loop-i-preserved : goal.loop-i-preserved
-loop-i-preserved c = (omega arith, running_next _ _ _ _ c.loop-i.invariant.1 c.length_at-sum.ensures.0, omega arith)
+loop-i-preserved c = (omega arith, running_next _ _ _ _ c.loop-i.invariant.1 (search rules), omega arith)
 
 pub returns : goal.returns
 returns c =
