@@ -135,9 +135,9 @@ fn fold(
     requires { CanFold (grounds terms masks.now held.now) (both_tables operands.now payloads.now) from first.kind first.payload first.label }
     ensures { Folds (grounds terms masks.now held.now) (both_tables operands.now payloads.now) from first.kind first.payload first.label (got result) }
 {
-    let mut kinds = [0u64; Operand::MOST_NESTED];
-    let mut numbers = [0u64; Operand::MOST_NESTED];
-    let mut labels = [0u32; Operand::MOST_NESTED];
+    let mut kinds = [0u64; Operand::DEEPEST];
+    let mut numbers = [0u64; Operand::DEEPEST];
+    let mut labels = [0u32; Operand::DEEPEST];
     let mut waiting = 0;
     let mut last = first;
     let mut o = from;

@@ -107,6 +107,8 @@ impl Operand {
     pub const MOST: usize = 2 * Sizes::MOST_CODE / (2 + Value::WIDTH);
     // How deep reads and operations may nest in an expression.
     pub const MOST_NESTED: usize = 8;
+    // So many values wait at most.
+    pub const DEEPEST: usize = Operand::MOST_NESTED;
 }
 
 // What a programme is compiled into: rows, and operands with their payloads beside them.

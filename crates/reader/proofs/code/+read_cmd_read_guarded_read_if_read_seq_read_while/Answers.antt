@@ -2,7 +2,7 @@ use Prim.Native.Nat.{ℕ, ◌+◌}
 use mathlib.Core.Path.{refl}
 use mathlib.Core.List.{[]}
 use native.Mathlib.Omega.{arith}
-use lib.ListN.{length}
+use lib.ListN.{length, get_or}
 use Rattle.syntax.specs.Code.{sorted, body_by, body_too_deep}
 use Rattle.reader.specs.CodeReader.{spot_at}
 use Rattle.syntax.proofs.CodeFirstByte.{sorted_unknown}
@@ -105,8 +105,8 @@ read_cmd-returns-else-deep-eq0-5 t c = let d = c in
 
 pub read_cmd-returns-in_default : goal.read_cmd-returns-in_default
 unfolding sorted body_by body_too_deep
-read_cmd-returns-in_default t c = let r = c.in_default.in_default-own.rest in
-    cmd_unknown _ _ _ _ _ _ _ _ _ (omega arith) (sorted_unknown _ r.0.0.0.0.1 r.0.0.0.1 r.0.0.1 r.0.1 r.1)
+read_cmd-returns-in_default t c =
+    cmd_unknown _ _ _ _ _ _ _ _ _ (omega arith) (sorted_unknown (get_or c.args.code.now c.args.from.at 0) (omega arith) (omega arith) (omega arith) (omega arith) (omega arith))
 
 pub read_guarded-read_expr-requires : goal.read_guarded-read_expr-requires
 read_guarded-read_expr-requires t c = can_go 0 c.requires.0 (bytes_on _ _ _ _ _ (omega arith) (omega arith)) (omega arith)
