@@ -34,7 +34,7 @@ pub extern "C" fn muntyzhap_version() -> u32
 pub extern "C" fn muntyzhap_check_store(sheet: &[u8]) -> u32
     ensures { result ≡ refusal_of (store_sheet sheet.now) }
 {
-    store::check_store(sheet)
+    values::number_of(store::check_store(sheet))
 }
 
 // The refusal of a table sheet, 1 to 4, or 0.
@@ -42,10 +42,11 @@ pub extern "C" fn muntyzhap_check_store(sheet: &[u8]) -> u32
 pub extern "C" fn muntyzhap_check_table(sheet: &[u8]) -> u32
     ensures { result ≡ refusal_of (table_sheet sheet.now) }
 {
-    store::check_table(sheet)
+    values::number_of(store::check_table(sheet))
 }
 
 // The refusal of a programme sheet against n principals and `slots` slots, 6 to 10, or 0; its block and its offset there.
+#[tactic(auto, unfolding(values::specs::Refusal::said_at, values::specs::Result::unplaced, syntax::specs::Sheet::check_answer))]
 #[unsafe(no_mangle)]
 pub extern "C" fn muntyzhap_check_programme(
     sheet: &[u8],
@@ -58,10 +59,18 @@ pub extern "C" fn muntyzhap_check_programme(
     ensures block_after { block.new ≡ (check_answer (programme_sheet n slots sheet.now)).block }
     ensures offset_after { offset.new ≡ (check_answer (programme_sheet n slots sheet.now)).offset }
 {
-    let a = programme::check_programme(sheet, n, slots);
-    *block = a.block;
-    *offset = a.offset;
-    a.number
+    match programme::check_programme(sheet, n, slots) {
+        Ok(()) => {
+            *block = 0;
+            *offset = 0;
+            Answer::FINISHED
+        }
+        Err(refused) => {
+            *block = refused.block;
+            *offset = refused.offset;
+            refused.refusal.number()
+        }
+    }
 }
 
 // One run of both sheets under a rule's number and a budget. It takes an output, `Opened::SLOT_WIDTH` bytes for each slot, and a journal of any

@@ -20,7 +20,7 @@ use Rattle.calculus.specs.Run.{Call, limits_of, Finished, run, entries_of, journ
 use Rattle.calculus.specs.Faithfulness.{Good, own_run}
 use Rattle.exactness.specs.Exactness.{Finishes, Within}
 use Rattle.exactness.specs.JournalTells.{namings, redone, Stands, Walks, values_of, values_in, ByRule, Written, JournalTells}
-use Rattle.calculus.specs.Counts.{total, count_at}
+use Rattle.store.specs.Counts.{total, count_at}
 use Rattle.calculus.proofs.Faithfulness.{faithfulness}
 use Rattle.exactness.proofs.Exactness.{exactness}
 use Rattle.exactness.proofs.JournalTellsWalks.{replayed, Each, Fits, each_parts, each_map, namings_few, counts_grow, namings_total, redone_forth, walks}

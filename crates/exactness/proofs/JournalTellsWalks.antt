@@ -16,7 +16,7 @@ use Rattle.values.specs.Value.{Slot, assigned, empty_slot}
 use Rattle.values.proofs.BytesArrays.{length_table, table_at}
 use Rattle.calculus.specs.Calculus.{Store, contents, Write, written}
 use Rattle.exactness.specs.JournalTells.{tally, namings, redone, undone, held_at, Stands, Walks, values_of}
-use Rattle.calculus.specs.Counts.{total}
+use Rattle.store.specs.Counts.{total}
 
 -- the write of an entry, and the store after those of all of them
 abbrev pub write_of : Entry → Write

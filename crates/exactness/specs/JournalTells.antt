@@ -14,7 +14,7 @@ use Rattle.exactness.specs.Reduction.{Region, Above, Covers, Trusts, asks, â—ŒâŠ
 use Rattle.calculus.specs.Run.{Call, answer, output, entries, journal}
 use Rattle.calculus.specs.Faithfulness.{Good, own_run}
 use Rattle.exactness.specs.Exactness.{Reaches}
-use Rattle.calculus.specs.Counts.{total, count_at}
+use Rattle.store.specs.Counts.{total, count_at}
 
 -- Counts
 

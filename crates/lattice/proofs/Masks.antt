@@ -1,20 +1,31 @@
 -- Laws of `table_ok` (specs/Masks.antt): the code's test of an order table is the definition's (`good`, specs/Order.antt). Assumes nothing.
-use Prim.Native.Nat.{ℕ, ◌^◌, ◌≤◌, ◌<◌}
+use Prim.Native.Nat.{ℕ, ◌^◌, ◌-◌, ◌≤◌, ◌<◌}
 use mathlib.Core.Path.{◌≡◌, refl, sym, ap, ◌∙◌}
 use mathlib.Core.Logic.{⊎_elim}
 use mathlib.Core.Bool.{Bool, true, false, not, true≢false}
 use mathlib.Core.List.{List}
+use native.Mathlib.Omega.{arith}
+use lib.Pow.{pow_pos}
 use lib.Bits.{bit_and}
 use lib.Dec.{ltb, eqb}
-use borrow.Author.Tests.{ltb-true, lt-ltb, eqb-true, eq-eqb, lt-leb, not-true}
+use borrow.Author.Tests.{ltb-true, lt-ltb, le-ltb, eqb-true, eq-eqb, lt-leb, not-true}
 use Rattle.lattice.specs.declared.Table.{Table}
 use Rattle.lattice.specs.Tests.{◌and◌, ◌or◌}
 use Rattle.lattice.specs.Order.{most_principals, bit, below, good}
 use Rattle.lattice.specs.GoodTables.{Below, Good}
 use Rattle.lattice.specs.Masks.{at, has_mask, pair_ok, meet_ok, row_ok, line_ok, rows_ok, table_ok}
-use Rattle.lattice.proofs.Tests.{and_l, and_r, and_of, or_at, or_l, or_r, imp_at, imp_of, iff, every_at, every_of, some_at, some_of}
+use Rattle.lattice.proofs.Tests.{branches, and_l, and_r, and_of, or_at, or_l, or_r, imp_at, imp_of, iff, every_at, every_of, some_at, some_of}
 use Rattle.lattice.proofs.OrderBits.{same_bits, bit_ones}
 use Rattle.lattice.proofs.Order.{good_at, good_of, both_below, and_small, meet_mask, top_mask_law}
+
+-- no bit n or higher is set: the mask is at most all ones
+pub fits_ones : (m n : ℕ) → m ≤ 2 ^ n - 1 → ltb m (2 ^ n) ≡ true
+fits_ones m n h = lt-ltb m (2 ^ n) (omega (arith, pow_pos n))
+
+pub past_ones : (m n : ℕ) → 2 ^ n - 1 < m → ltb m (2 ^ n) ≡ false
+past_ones m n h = le-ltb m (2 ^ n) (omega (arith, pow_pos n))
+
+pub ruleset line_steps = (branches, fits_ones, past_ones)
 
 module _ (masks : List ℕ) (n : ℕ) (few : n ≤ most_principals) where
   abbrev t : Table

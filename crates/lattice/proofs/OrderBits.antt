@@ -2,10 +2,10 @@
 use Prim.Native.Nat.{ℕ, zero, suc, ◌+◌, ◌-◌, ◌*◌, ◌/◌, ◌%◌, ◌^◌, ◌≤◌, ◌<◌, min}
 use mathlib.Core.Path.{◌≡◌, refl, sym, ap, ◌∙◌}
 use mathlib.Core.Bool.{true, false}
-use native.Mathlib.Nat.{le_of_suc-le-suc, not-suc-le-zero, div-lt_iff_lt-mul, div-eq_of_lt, pow-suc, lt_of_le_of_lt, lt_of_lt_of_le, div-one, min-le_left}
+use native.Mathlib.Nat.{le_of_suc-le-suc, not-suc-le-zero, div-lt_iff_lt-mul, div-eq_of_lt, pow-suc, lt_of_le_of_lt, lt_of_lt_of_le, div-one, min-le_left, one-mul}
 use native.Mathlib.Omega.{arith}
 use lib.Arith.{digits_mod, digits_div, lt-one, dbl_pred}
-use lib.Pow.{shr-shr, pow_pos, pow_mono}
+use lib.Pow.{shl_exact, shr-shr, pow_pos, pow_mono}
 use lib.Bits.{bit_and, and_step, and_shr}
 use lib.Dec.{eqb}
 use Rattle.lattice.specs.Tests.{◌and◌}
@@ -74,6 +74,19 @@ ones_suc n = ap (λ (x : ℕ). x - 1) (pow-suc 2 n) ∙ dbl_pred (pow_pos n)
 pub bit_past : (n a j : ℕ) → a < 2 ^ n → n ≤ j → bit a j ≡ false
 unfolding bit
 bit_past n a j h l = ap (λ (x : ℕ). eqb (x % 2) 1) (div-eq_of_lt (lt_of_lt_of_le h (pow_mono l)))
+
+-- a mask of 32 bits has none from bit 32 on
+pub mask_past : (a j : ℕ) → a < 2 ^ 32 → 32 ≤ j → bit a j ≡ false
+mask_past a j h l = bit_past 32 a j h l
+
+-- `1 << n` at 64 bits, and its size
+pub shifted : (n : ℕ) → n ≤ 32 → 1 * 2 ^ n % 2 ^ 64 ≡ 2 ^ n
+shifted n h = shl_exact {a = 1} 1 n 64 (omega arith) (omega arith) ∙ one-mul (2 ^ n)
+
+pub shift_size : (n : ℕ) → n ≤ 32 → (0 < 2 ^ n) × (2 ^ n ≤ 2 ^ 32)
+shift_size n h = (pow_pos n, pow_mono h)
+
+pub ruleset shifts = (shifted, shift_size)
 
 -- all n low bits of 2 ^ n - 1 are set
 pub bit_ones : (n j : ℕ) → j < n → bit (2 ^ n - 1) j ≡ true

@@ -2,10 +2,22 @@
 use Prim.Native.Nat.{ℕ, zero, suc, ◌+◌, ◌≤◌, ◌<◌}
 use mathlib.Core.Path.{◌≡◌, refl, sym, ap, ap₂, subst, ◌∙◌}
 use mathlib.Core.Logic.{◌⊎◌, inl, inr, ⊎_elim}
-use mathlib.Core.Bool.{Bool, true, false, true≢false, false≢true}
+use mathlib.Core.Bool.{Bool, true, false, ◌&&◌, ◌||◌, and-true, true≢false, false≢true}
+use mathlib.Core.List.{List, map}
+use lib.ListN.{length, take, get_or}
 use native.Mathlib.Nat.{le_of_suc-le-suc, not-suc-le-zero, eq-or-lt_of_le, le_refl, le_antisymm}
 use native.Mathlib.Numerals.{add-one}
 use native.Mathlib.Omega.{arith}
+use denote.Param.Members.{Mut}
+use Rattle.std.specs.declared.ops.Range.{Range}
+use Rattle.std.specs.Fn.{Called}
+use Rattle.std.specs.Iterator.{ChecksAll}
+use Rattle.std.proofs.iter.Yields.{nat_range_steps}
+use Rattle.std.proofs.lemmas.Iterator.{YieldsList-from_range}
+use Rattle.std.proofs.lemmas.Iterator.Search.{all_from_yields_List}
+use Rattle.std.specs.List.{list_all, list_any, range_with_len}
+use Rattle.std.proofs.lemmas.List.Folds.{list_all-append, list_all-map, list_any_more}
+use Rattle.std.proofs.lemmas.List.FromFn.{map-range_with_len_more}
 use Rattle.lattice.specs.Tests.{◌and◌, ◌or◌, ◌implies◌, every, some, find}
 
 pub and_l : (a b : Bool) → a and b ≡ true → a ≡ true
@@ -52,6 +64,33 @@ pub is_false : (b : Bool) → (b ≡ true → ⊥) → b ≡ false
 is_false true h = absurd (h refl)
 is_false false h = refl
 
+-- what is left of a test once its first part is known
+pub and_known : (a b : Bool) → a ≡ true → a and b ≡ b
+unfolding ◌and◌
+and_known a b e = rw e
+
+pub and_fails : (a b : Bool) → a ≡ false → a and b ≡ false
+unfolding ◌and◌
+and_fails a b e = rw e
+
+pub or_known : (a b : Bool) → a ≡ true → a or b ≡ true
+unfolding ◌or◌
+or_known a b e = rw e
+
+pub or_left : (a b : Bool) → a ≡ false → a or b ≡ b
+unfolding ◌or◌
+or_left a b e = rw e
+
+pub imp_known : (a b : Bool) → a ≡ true → a implies b ≡ b
+unfolding ◌implies◌
+imp_known a b e = rw e
+
+pub imp_void : (a b : Bool) → a ≡ false → a implies b ≡ true
+unfolding ◌implies◌
+imp_void a b e = rw e
+
+pub ruleset branches = (and_known, and_fails, or_known, or_left, imp_known, imp_void)
+
 -- two tests are equal where each follows from the other
 pub iff : (a b : Bool) → (a ≡ true → b ≡ true) → (b ≡ true → a ≡ true) → a ≡ b
 iff true b f g = sym (f refl)
@@ -97,16 +136,47 @@ pub every_more : (n : ℕ) (f : ℕ → Bool) → every n f ≡ true → f n ≡
 unfolding every
 every_more n f p q = rw add-one (and_of (every n f) (f n) p q)
 
-pub some_more : (n : ℕ) (f : ℕ → Bool) → some n f ≡ false → f n ≡ false → some (n + 1) f ≡ false
-unfolding some ◌or◌
-some_more n f p q = rw (add-one, p, q) refl
-
 -- a loop's end
 pub every_done : (n k : ℕ) (f : ℕ → Bool) → k ≤ n → n ≤ k → every k f ≡ true → true ≡ every n f
 every_done n k f p q e = sym e ∙ ap (λ (m : ℕ). every m f) (le_antisymm p q)
 
-pub some_done : (n k : ℕ) (f : ℕ → Bool) → k ≤ n → n ≤ k → some k f ≡ false → false ≡ some n f
-some_done n k f p q e = sym e ∙ ap (λ (m : ℕ). some m f) (le_antisymm p q)
+-- the library's tests are these
+and_same : (a b : Bool) → a && b ≡ a and b
+unfolding ◌and◌
+and_same true b = refl
+and_same false b = refl
+
+or_same : (a b : Bool) → a || b ≡ a or b
+unfolding ◌or◌
+or_same true b = refl
+or_same false b = refl
+
+range_more : (n : ℕ) (f : ℕ → Bool) → list_all f (range_with_len 0 (n + 1)) ≡ list_all f (range_with_len 0 n) && f n
+range_more n f =
+    let id : ℕ → ℕ = λ k. k in
+    sym (list_all-map f id _) ∙ ap (list_all f) (map-range_with_len_more id 0 n n (omega arith))
+    ∙ list_all-append f (map id (range_with_len 0 n)) _ ∙ rw (list_all-map f id, and-true)
+
+-- `all` over 0..n
+pub every_range : (n : ℕ) (f : ℕ → Bool) → list_all f (range_with_len 0 n) ≡ every n f
+unfolding every
+every_range zero f = refl
+every_range (suc n) f =
+    subst (λ (m : ℕ). list_all f (range_with_len 0 m) ≡ every m f) (add-one n)
+    (range_more n f ∙ rw (every_range n f, add-one) (and_same _ _))
+
+-- what `all` answers over 0..n, where the closure computes the test
+pub every_from_all : {F : Type 0} {g : Mut F (ℕ × Unit {0}) Bool} {s u : Range ℕ} {f : F} {r : Bool} (n : ℕ) (test : ℕ → Bool)
+    → ChecksAll nat_range_steps g s f r u → s ≡ record { start = 0; end = n }
+    → ((x : ℕ) (b : Bool) (q : F) → Called g f (x, tt) b q → (q ≡ f) × (b ≡ test x)) → r ≡ every n test
+every_from_all n test ran e called =
+    all_from_yields_List test _ _ _ ran (YieldsList-from_range 0 n n e (omega arith)) called ∙ every_range n test
+
+-- `any` over the first n of a list
+pub some_front : (n : ℕ) (f : ℕ → Bool) (xs : List ℕ) → n ≤ length xs → list_any f (take n xs) ≡ some n (λ k. f (get_or xs k 0))
+unfolding some
+some_front zero f xs h = refl
+some_front (suc n) f xs h = rw (← add-one n, list_any_more f xs n 0 (omega arith), some_front n f xs (omega arith)) (or_same _ _)
 
 -- a search that can succeed does
 pub find_at : (n : ℕ) (f : ℕ → Bool) (k : ℕ) → k < n → f k ≡ true → (find n f < n) × (f (find n f) ≡ true)

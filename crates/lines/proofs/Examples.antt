@@ -8,11 +8,12 @@ use Rattle.values.specs.SignedIntegers.{negative, magnitude}
 use Rattle.store.specs.Sheet.{order_of}
 use Rattle.lines.specs.Decimal.{decimal_within}
 use Rattle.lines.specs.PrincipalsAbove.{one_if, how_many, number_above}
-use Rattle.lines.specs.Lines.{field, answer_fields, answer_line, payload_field, slot_line, count_of, slot_lines, total_of, total_line, lines}
+use Rattle.store.specs.Counts.{total}
+use Rattle.lines.specs.Lines.{field, answer_fields, answer_line, payload_field, slot_line, slot_lines, total_line, lines}
 use Rattle.lines.specs.Examples.{ends, values, EndsHold, ValuesHold}
 
 pub ends_hold : EndsHold
-unfolding ends decimal_within field answer_fields answer_line payload_field slot_line count_of slot_lines total_of total_line lines negative magnitude
+unfolding ends decimal_within field answer_fields answer_line payload_field slot_line slot_lines total_line total lines negative magnitude
     one_if how_many number_above ◌and◌ bit number_at number_bytes entries filled value_at value_bytes slot_bytes order_of
 ends_hold = refl
 

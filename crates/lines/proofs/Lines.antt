@@ -1,66 +1,79 @@
 -- Laws of the lines, as they are put into a text. Assumes nothing.
-use Prim.Native.Nat.{ℕ, suc, ◌+◌, ◌-◌, ◌*◌, ◌≤◌, ◌<◌}
-use mathlib.Core.Path.{◌≡◌, refl, ap, ◌∙◌}
+use Prim.Native.Nat.{ℕ, zero, suc, ◌+◌, ◌*◌, ◌%◌, ◌^◌, ◌<◌}
+use mathlib.Core.Path.{◌≡◌, refl, sym, ap, subst, ◌∙◌}
 use mathlib.Core.Bool.{Bool, true, false}
-use mathlib.Core.List.{List, [], ◌++◌}
+use mathlib.Core.List.{List, [], ◌++◌, append_assoc, append-nil}
+use native.Mathlib.Nat.{add-zero, zero-add}
 use native.Mathlib.Numerals.{add-one}
 use native.Mathlib.Omega.{arith}
-use lib.ListN.{length, take}
-use lib.Seq.{length-sets}
+use lib.ListN.{take}
 use lib.Dec.{eqb}
+use Rattle.std.specs.List.{sum_by, range_with_len}
+use Rattle.std.proofs.lemmas.List.{map-id}
+use Rattle.std.proofs.lemmas.List.FromFn.{sum_by-map-range_with_len_more}
 use borrow.Author.Tests.{eq-eqb, ne_eqb}
 use Rattle.values.specs.declared.Answer.{Answer}
 use Rattle.values.specs.declared.Value.{Value}
 use Rattle.values.specs.Value.{slot_width, value_at}
 use Rattle.values.specs.SignedIntegers.{negative, magnitude}
+use Rattle.values.proofs.SignedIntegers.{plain, flipped, from_least}
 use Rattle.store.specs.Sheet.{owner_at, order_of}
 use Rattle.lines.specs.Decimal.{ascii}
 use Rattle.lines.specs.PrincipalsAbove.{number_above}
-use Rattle.lines.specs.Lines.{field, line_end, answer_fields, answer_line, payload_field, slot_line, count_of, slot_lines, total_of, total_line, lines}
-use Rattle.lines.specs.PutText.{Put, field_room, fields_room, answer_room, slot_room, total_room}
-use Rattle.lines.proofs.PutText.{put_none, put_then, put_as}
+use Rattle.values.specs.Bytes.{table}
+use Rattle.store.specs.Counts.{total, count_at}
+use Rattle.lines.specs.Lines.{field, line_end, answer_fields, answer_line, payload_field, slot_line, slot_lines, total_line, lines}
+use Rattle.lines.specs.declared.putting.Writer.{Writer}
+use Rattle.lines.specs.Written.{Written}
+use Rattle.lines.specs.PutText.{field_room, fields_room, answer_room, slot_room, total_room}
+use Rattle.lines.proofs.PutText.{written_none, written_then, written_as}
 
 -- the fields of line 1; the fields and the end of a slot's line, and of the last line
-module _ {t t₁ t₂ t₃ t₄ : List ℕ} {at e₁ e₂ e₃ e₄ : ℕ} where
+module _ {w w₁ w₂ w₃ w₄ : Writer} where
   pub fields_put : (a : Answer)
-      → Put t at (field (ascii "end ") a.number) (field_room 4) e₁ t₁
-      → Put t₁ e₁ (field (ascii " block ") a.block) (field_room 7) e₂ t₂
-      → Put t₂ e₂ (field (ascii " at ") a.offset) (field_room 4) e₃ t₃
-      → Put t₃ e₃ (field (ascii " steps ") a.steps) (field_room 7) e₄ t₄
-      → Put t at (answer_fields a) fields_room e₄ t₄
+      → Written w (field (ascii "end ") a.number) (field_room 4) w₁
+      → Written w₁ (field (ascii " block ") a.block) (field_room 7) w₂
+      → Written w₂ (field (ascii " at ") a.offset) (field_room 4) w₃
+      → Written w₃ (field (ascii " steps ") a.steps) (field_room 7) w₄
+      → Written w (answer_fields a) fields_room w₄
   unfolding answer_fields
-  fields_put a p q r s = put_then (put_then (put_then p q) r) s
+  fields_put a p q r s = written_then (written_then (written_then p q) r) s
 
-  pub slot_puts : {t₅ t₆ t₇ : List ℕ} {e₅ e₆ e₇ : ℕ} (slot owner : ℕ) (v : Value) (writes above : ℕ)
-      → Put t at (field [] slot) (field_room 0) e₁ t₁
-      → Put t₁ e₁ (field (ascii " ") owner) (field_room 1) e₂ t₂
-      → Put t₂ e₂ (field (ascii " ") v.kind) (field_room 1) e₃ t₃
-      → Put t₃ e₃ (payload_field v) (field_room 2) e₄ t₄
-      → Put t₄ e₄ (field (ascii " ") writes) (field_room 1) e₅ t₅
-      → Put t₅ e₅ (field (ascii " ") above) (field_room 1) e₆ t₆
-      → Put t₆ e₆ line_end 1 e₇ t₇
-      → Put t at (slot_line slot owner v writes above) slot_room e₇ t₇
+  pub slot_puts : {w₅ w₆ w₇ : Writer} (slot owner : ℕ) (v : Value) (writes above : ℕ)
+      → Written w (field [] slot) (field_room 0) w₁
+      → Written w₁ (field (ascii " ") owner) (field_room 1) w₂
+      → Written w₂ (field (ascii " ") v.kind) (field_room 1) w₃
+      → Written w₃ (payload_field v) (field_room 2) w₄
+      → Written w₄ (field (ascii " ") writes) (field_room 1) w₅
+      → Written w₅ (field (ascii " ") above) (field_room 1) w₆
+      → Written w₆ line_end 1 w₇
+      → Written w (slot_line slot owner v writes above) slot_room w₇
   unfolding slot_line
-  slot_puts slot owner v writes above p q r s w x l = put_then (put_then (put_then (put_then (put_then (put_then p q) r) s) w) x) l
+  slot_puts slot owner v writes above p q r s t x l =
+      written_then (written_then (written_then (written_then (written_then (written_then p q) r) s) t) x) l
 
-pub total_put : {t t₁ t₂ : List ℕ} {at e₁ e₂ : ℕ} (out : List ℕ) (m : ℕ) {total : ℕ} → total ≡ total_of out m
-    → Put t at (field [] total) (field_room 0) e₁ t₁ → Put t₁ e₁ line_end 1 e₂ t₂ → Put t at (total_line out m) total_room e₂ t₂
+pub total_put : {u v w : Writer} (out : List ℕ) (m : ℕ) {all : ℕ} → all ≡ total (table m (count_at out))
+    → Written u (field [] all) (field_room 0) v → Written v line_end 1 w → Written u (total_line out m) total_room w
 unfolding total_line
-total_put out m h p l = put_then (rw h at p) l
+total_put out m h p l = written_then (rw h at p) l
 
-pub answer_put : {t t₁ t₂ : List ℕ} {at e₁ e₂ : ℕ} (a : Answer)
-    → Put t at (answer_fields a) fields_room e₁ t₁ → Put t₁ e₁ line_end 1 e₂ t₂ → Put t at (answer_line a) answer_room e₂ t₂
+pub answer_put : {u v w : Writer} (a : Answer)
+    → Written u (answer_fields a) fields_room v → Written v line_end 1 w → Written u (answer_line a) answer_room w
 unfolding answer_line
-answer_put a p l = put_then p l
+answer_put a p l = written_then p l
 
-module _ (v : Value) where
-  pub with_sign : negative v ≡ true → field (ascii " -") (magnitude v) ≡ payload_field v
+module _ (v : Value) {u w : Writer} where
+  -- a negative one's magnitude is its payload, wrapped round
+  pub with_sign : (x : ℕ) → negative v ≡ true → (x + v.payload) % 2 ^ 64 ≡ 0 → x < 2 ^ 64 → v.payload < 2 ^ 64
+      → Written u (field (ascii " -") x) (field_room 2) w → Written u (payload_field v) (field_room 2) w
   unfolding payload_field
-  with_sign h = rw (payload_field, h)
+  with_sign x h e l p put =
+      let m : x ≡ magnitude v = omega (arith, from_least v h, flipped v h) in
+      rw (payload_field, h) (rw m at put)
 
-  pub without_sign : negative v ≡ false → field (ascii " ") (magnitude v) ≡ payload_field v
+  pub without_sign : negative v ≡ false → Written u (field (ascii " ") v.payload) (field_room 1) w → Written u (payload_field v) (field_room 2) w
   unfolding payload_field
-  without_sign h = rw (payload_field, h)
+  without_sign h put = rw (payload_field, h) (written_as 22 (ap (field (ascii " ")) (plain v h)) (omega arith) put)
 
 module _ (a : Answer) (sheet : List ℕ) (m : ℕ) (out : List ℕ) where
   pub refused : (a.number ≡ 0 → ⊥) → answer_line a ≡ lines a sheet m out
@@ -88,57 +101,27 @@ starts_lines a sheet m out = either (eqb a.number 0)
     either true = refl
     either false = refl
 
--- the loop that sums the counts: its start and its step
-pub total_none : (out : List ℕ) → 0 ≡ total_of out 0
-unfolding total_of
-total_none out = refl
+-- slot i's line in an output
+abbrev line_of : List ℕ → List ℕ → ℕ → List ℕ
+line_of sheet out i =
+    slot_line i (owner_at sheet i) (value_at out (slot_width * i)) (count_at out i) (number_above (order_of sheet) (owner_at sheet i))
 
-pub total_step : (out : List ℕ) (i : ℕ) {total count : ℕ} → total ≡ total_of out i → count ≡ count_of out i → total + count ≡ total_of out (i + 1)
-unfolding total_of
-total_step out i p q = rw (p, q, add-one i) refl
+-- one line more, behind the others
+slots_more : (sheet out : List ℕ) (i n : ℕ) → slot_lines sheet out i (suc n) ≡ slot_lines sheet out i n ++ line_of sheet out (i + n)
+unfolding slot_lines
+slots_more sheet out i zero = rw (add-zero i, append-nil) refl
+slots_more sheet out i (suc n) =
+    let e : i + 1 + n ≡ i + suc n = omega arith in
+    ap (λ (l : List ℕ). line_of sheet out i ++ l) (slots_more sheet out (i + 1) n) ∙ rw e (sym (append_assoc (line_of sheet out i) _ _))
 
--- The loop over the slots stands before the i-th: the lines that are left, put from here, make up all of them.
-pub record Left (t₀ : List ℕ) (at : ℕ) (sheet out : List ℕ) (slots : ℕ) (t : List ℕ) (end i : ℕ) : Type 0 where
-  pub done : i ≤ slots
-  pub same : length t ≡ length t₀
-  pub room : end + slot_room * (slots - i) ≤ length t
-  pub rest : (e : ℕ) (t' : List ℕ) → Put t end (slot_lines sheet out i (slots - i)) (slot_room * (slots - i)) e t'
-      → Put t₀ at (slot_lines sheet out 0 slots) (slot_room * slots) e t'
+pub slot_next : (sheet out : List ℕ) (i : ℕ) {u v w : Writer} (owner : ℕ) (x : Value) (writes above : ℕ)
+    → owner ≡ owner_at sheet i → x ≡ value_at out (slot_width * i) → writes ≡ count_at out i → above ≡ number_above (order_of sheet) owner
+    → Written u (slot_lines sheet out 0 i) (slot_room * i) v → Written v (slot_line i owner x writes above) slot_room w
+    → Written u (slot_lines sheet out 0 (i + 1)) (slot_room * (i + 1)) w
+slot_next sheet out i owner x writes above p q r s before line =
+    let more = slots_more sheet out 0 i ∙ ap (λ (k : ℕ). slot_lines sheet out 0 i ++ line_of sheet out k) (zero-add i) in
+    written_as (slot_room * (i + 1)) (sym (rw (← add-one i) at more)) (omega arith) (written_then before (rw (s, p, q, r) at line))
 
-module _ (t₀ : List ℕ) (at : ℕ) (sheet out : List ℕ) (slots : ℕ) where
-  pub left_all : at + slot_room * slots ≤ length t₀ → Left t₀ at sheet out slots t₀ at 0
-  left_all h =
-      let e : slots - 0 ≡ slots = omega arith in
-      record {
-        done = omega arith;
-        same = refl;
-        room = omega arith;
-        rest = λ end t' p. put_as (slot_room * slots) (ap (slot_lines sheet out 0) e) (omega arith) p;
-      }
-
-  module _ (t : List ℕ) (end i : ℕ) (left : Left t₀ at sheet out slots t end i) where
-    next : i < slots
-        → slot_line i (owner_at sheet i) (value_at out (slot_width * i)) (count_of out i) (number_above (order_of sheet) (owner_at sheet i))
-        ++ slot_lines sheet out (i + 1) (slots - (i + 1))
-        ≡ slot_lines sheet out i (slots - i)
-    unfolding slot_lines
-    next h = let e : slots - i ≡ suc (slots - (i + 1)) = omega arith in rw e refl
-
-    pub left_next : (owner : ℕ) (v : Value) (writes above : ℕ) {end' : ℕ} {t' : List ℕ} → i < slots
-        → owner ≡ owner_at sheet i → v ≡ value_at out (slot_width * i) → writes ≡ count_of out i → above ≡ number_above (order_of sheet) owner
-        → Put t end (slot_line i owner v writes above) slot_room end' t' → Left t₀ at sheet out slots t' end' (i + 1)
-    left_next owner v writes above {end'} {t'} h p q w x put =
-        let same : length t' ≡ length t = ap length put.holds ∙ length-sets t end (slot_line i owner v writes above) in
-        record {
-          done = omega arith;
-          same = same ∙ left.same;
-          room = omega (arith, put.within, left.room, same);
-          rest = λ e t'' last. left.rest e t'' (put_as (slot_room * (slots - i)) (next h) (omega arith) (put_then (rw (x, p, q, w) at put) last));
-        }
-
-    none : slots ≤ i → [] ≡ slot_lines sheet out i (slots - i)
-    unfolding slot_lines
-    none h = let e : slots - i ≡ 0 = omega arith in rw e refl
-
-    pub left_none : slots ≤ i → Put t₀ at (slot_lines sheet out 0 slots) (slot_room * slots) end t
-    left_none h = left.rest end t (put_as (slot_room * (slots - i)) (none h) (omega arith) (put_none t end 0))
+pub slots_none : (sheet out : List ℕ) (w : Writer) (room : ℕ) → Written w (slot_lines sheet out 0 0) room w
+unfolding slot_lines
+slots_none sheet out w room = written_none w room

@@ -3,13 +3,14 @@ use Prim.Native.Nat.{ℕ, zero, suc, ◌+◌, ◌*◌, ◌%◌, ◌^◌, ◌≤�
 use mathlib.Core.Path.{◌≡◌, refl, sym, ap, ap₂, subst, ◌∙◌}
 use mathlib.Core.Bool.{Bool, true, false}
 use mathlib.Core.List.{List}
-use native.Mathlib.Nat.{add_comm, zero-lt-suc, pow-suc, one-mul}
+use native.Mathlib.Nat.{add_comm, zero-lt-suc, pow-suc}
 use native.Mathlib.Decide.{le_ind}
 use native.Mathlib.Numerals.{add-one}
 use native.Mathlib.Omega.{arith}
 use lib.ListN.{get_or, get_or-eq_default}
 use lib.Count.{ones, ones_in, ones_cat}
-use lib.Pow.{shl_exact, pow_mono}
+use lib.Pow.{shl_exact}
+use mir.Val.{bool_byte}
 use lib.Dec.{ltb}
 use borrow.Author.Tests.{lt-ltb, le-ltb, ltb-true, ltb-false}
 use Rattle.lattice.specs.Order.{Label, most_principals, mask, below}
@@ -55,20 +56,11 @@ unfolding how_many one_if
 none_past f k n h l =
     le_ind (λ (m : ℕ). how_many m f ≡ how_many k f) refl (λ m km e. rw (h m km) (omega (arith, e))) n l
 
--- a bit above a mask of p bits, and both together, fit 32 bits
-pub bit_shifted : (p : ℕ) → p < 32 → 1 * 2 ^ p % 2 ^ 32 ≡ 2 ^ p
-bit_shifted p k = shl_exact {a = 1} 1 p 32 (omega arith) (omega arith) ∙ one-mul (2 ^ p)
-
-pub bit_fits : (m p : ℕ) → m < 2 ^ p → p < 32 → m + 2 ^ p < 2 ^ 32
-bit_fits m p h k = omega (arith, pow-suc 2 p, pow_mono {i = suc p} {j = 32} k)
-
-pub bit_set : (m p : ℕ) (b : Bool) → b ≡ true → m + 2 ^ p ≡ m + one_if b * 2 ^ p
+-- a mask with bit p, where the test passes
+pub bit_added : (m p : ℕ) (b : Bool) (x : ℕ) → x ≡ bool_byte b → p < 32 → m + x * 2 ^ p % 2 ^ 32 ≡ m + one_if b * 2 ^ p
 unfolding one_if
-bit_set m p b e = rw e (omega arith)
-
-pub bit_unset : (m p : ℕ) (b : Bool) → b ≡ false → m ≡ m + one_if b * 2 ^ p
-unfolding one_if
-bit_unset m p b e = rw e (omega arith)
+bit_added m p true x e h = rw e (ap (λ (k : ℕ). m + k) (shl_exact {a = 1} 1 p 32 (omega arith) (omega arith)))
+bit_added m p false x e h = rw e (omega arith)
 
 -- a loop that sets bits: its start and its step
 pub mask_none : (f : ℕ → Bool) → 0 ≡ mask_where 0 f

@@ -1,14 +1,19 @@
 -- Laws of bytes that are put into a text one after the other. Assumes nothing.
 use Prim.Native.Nat.{ℕ, suc, ◌+◌, ◌/◌, ◌%◌, ◌≤◌, ◌<◌}
 use mathlib.Core.Path.{◌≡◌, refl, sym, ap, ◌∙◌}
-use mathlib.Core.List.{List, [], ◌∷◌, ◌++◌}
+use mathlib.Core.List.{List, [], ◌∷◌, ◌++◌, append_assoc}
 use native.Mathlib.Nat.{add-zero}
 use native.Mathlib.Omega.{arith}
-use lib.ListN.{length, get_or, drop, set, length-append, drop_of_length-le}
-use lib.Seq.{sets, sets-eq, length-sets, drop-cons}
+use lib.ListN.{length, take, drop, length-append}
+use lib.Seq.{sets, sets-eq, length-sets}
+use borrow.Rule.Slice.PartMut.{put_mid}
+use Rattle.std.proofs.lemmas.List.Edits.{paste_all}
+use Rattle.std.proofs.lemmas.Slice.{put_mid-paste}
 use Rattle.values.proofs.BytesWritten.{sets_append}
 use Rattle.lines.specs.Decimal.{digit, decimal_within}
 use Rattle.lines.specs.PutText.{Put, Begins}
+use Rattle.lines.specs.declared.putting.Writer.{Writer}
+use Rattle.lines.specs.Written.{Written}
 use Rattle.lines.proofs.Decimal.{one_digit, more_digits}
 
 -- nothing
@@ -42,24 +47,34 @@ begins {t} {t'} {bytes} {room} {end} h p =
       fits = omega (arith, p.within, ap length p.holds, length-sets t 0 bytes);
     }
 
--- the loop over some bytes: one is put, and the rest is left
-pub bytes_step : (t bytes : List ℕ) (at at' i i' : ℕ) → i < length bytes → at' ≡ suc at → i' ≡ suc i
-    → sets t at (drop i bytes) ≡ sets (set t at (get_or bytes i 0)) at' (drop i' bytes)
-bytes_step t bytes at at' i i' h p q = rw (p, q, drop-cons bytes i 0 h) refl
+-- bytes that were copied into a part of the text
+pub copied : (t bytes part : List ℕ) (at k : ℕ) → at + length bytes ≤ length t → k ≡ length bytes → part ≡ bytes
+    → put_mid at k t part ≡ sets t at bytes
+copied t bytes part at k h p q =
+    put_mid-paste at k t part bytes k q refl p ∙ paste_all t at bytes k p ∙ rw p (sym (sets-eq bytes t at h ∙ append_assoc (take at t) bytes _))
 
-pub bytes_done : (t bytes : List ℕ) (at i : ℕ) → length bytes ≤ i → sets t at (drop i bytes) ≡ t
-bytes_done t bytes at i h = rw (drop_of_length-le bytes {i = i} h) refl
+-- the writer stays where it is
+pub written_none : (w : Writer) (room : ℕ) → Written w [] room w
+written_none w room = record { same = refl; kept = refl; put = put_none w.text.now w.end room }
+
+-- one text after another
+pub written_then : {u v w : Writer} {a b : List ℕ} {r s : ℕ} → Written u a r v → Written v b s w → Written u (a ++ b) (r + s) w
+written_then p q = record { same = q.same ∙ p.same; kept = q.kept ∙ p.kept; put = put_then p.put q.put }
+
+-- the same bytes by another name, and in more room
+pub written_as : {v w : Writer} {a b : List ℕ} {r : ℕ} (s : ℕ) → a ≡ b → r ≤ s → Written v a r w → Written v b s w
+written_as s e h p = record { same = p.same; kept = p.kept; put = put_as s e h p.put }
 
 -- a number's digits: none, the only one, or the last after those before it
-pub digits_none : (places n : ℕ) (t : List ℕ) (at : ℕ) → places ≡ 0 → Put t at (decimal_within places n) places at t
+pub digits_none : (places n : ℕ) (w : Writer) → places ≡ 0 → Written w (decimal_within places n) places w
 unfolding decimal_within
-digits_none places n t at p = rw p (put_none t at 0)
+digits_none places n w p = rw p (written_none w 0)
 
-module _ (places n : ℕ) {t t' : List ℕ} {at end : ℕ} where
-  pub digits_one : (p : ℕ) → places ≡ suc p → n < 10 → Put t at (digit n ∷ []) 1 end t' → Put t at (decimal_within places n) places end t'
-  digits_one p e h put = rw e (put_as (suc p) (sym (one_digit p n h)) (omega arith) put)
+module _ (places n : ℕ) {v w : Writer} where
+  pub digits_one : (p : ℕ) → places ≡ suc p → n < 10 → Written v (digit n ∷ []) 1 w → Written v (decimal_within places n) places w
+  digits_one p e h put = rw e (written_as (suc p) (sym (one_digit p n h)) (omega arith) put)
 
-  pub digits_more : (p : ℕ) → places ≡ suc p → 10 ≤ n → {m : List ℕ} {mid : ℕ}
-      → Put t at (decimal_within p (n / 10)) p mid m → Put m mid (digit (n % 10) ∷ []) 1 end t'
-      → Put t at (decimal_within places n) places end t'
-  digits_more p e h put last = rw e (put_as (suc p) (sym (more_digits p n h)) (omega arith) (put_then put last))
+  pub digits_more : (p : ℕ) → places ≡ suc p → 10 ≤ n → {m : Writer}
+      → Written v (decimal_within p (n / 10)) p m → Written m (digit (n % 10) ∷ []) 1 w
+      → Written v (decimal_within places n) places w
+  digits_more p e h put last = rw e (written_as (suc p) (sym (more_digits p n h)) (omega arith) (written_then put last))

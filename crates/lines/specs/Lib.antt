@@ -4,3 +4,4 @@ pub mod Lines
 pub mod PutText
 pub mod Examples
 pub mod Promises
+pub mod Written

@@ -2,10 +2,11 @@
 use Rattle.std.specs.Prelude.{ℕ, zero, suc, ◌+◌, ◌*◌, true, false, List, [], ◌++◌, eqb}
 use Rattle.values.specs.declared.Answer.{Answer}
 use Rattle.values.specs.declared.Value.{Value}
-use Rattle.values.specs.Bytes.{number_at}
-use Rattle.values.specs.Value.{value_width, count_width, slot_width, value_at}
+use Rattle.values.specs.Bytes.{table}
+use Rattle.values.specs.Value.{slot_width, value_at}
 use Rattle.values.specs.SignedIntegers.{negative, magnitude}
 use Rattle.store.specs.Sheet.{owner_at, order_of}
+use Rattle.store.specs.Counts.{total, count_at}
 use Rattle.lines.specs.Decimal.{ascii, decimal}
 use Rattle.lines.specs.PrincipalsAbove.{number_above}
 
@@ -44,25 +45,16 @@ slot_line slot owner v writes above =
     ++ field (ascii " ") above
     ++ line_end
 
--- a slot's count in an output: "4 bytes of it after each value" (document 02, N7)
-unfoldable pub count_of : List ℕ → ℕ → ℕ
-count_of out i = number_at count_width out (slot_width * i + value_width)
-
 -- n slots of an output from the i-th on, with their owners and the order table in the store sheet
 unfoldable pub slot_lines : List ℕ → List ℕ → ℕ → ℕ → List ℕ
 slot_lines sheet out i zero = []
 slot_lines sheet out i (suc n) =
-    slot_line i (owner_at sheet i) (value_at out (slot_width * i)) (count_of out i) (number_above (order_of sheet) (owner_at sheet i))
+    slot_line i (owner_at sheet i) (value_at out (slot_width * i)) (count_at out i) (number_above (order_of sheet) (owner_at sheet i))
     ++ slot_lines sheet out (i + 1) n
-
--- the sum of the first m slots' counts
-unfoldable pub total_of : List ℕ → ℕ → ℕ
-total_of out zero = 0
-total_of out (suc m) = total_of out m + count_of out m
 
 -- "a last line is the total of writes" (document 02, N7): the number alone, also where there is no slot
 unfoldable pub total_line : List ℕ → ℕ → List ℕ
-total_line out m = field [] (total_of out m) ++ line_end
+total_line out m = field [] (total (table m (count_at out))) ++ line_end
 
 -- The lines of a run's answer and of the m slots of its output: "A refusal prints line 1 only."
 unfoldable pub lines : Answer → List ℕ → ℕ → List ℕ → List ℕ

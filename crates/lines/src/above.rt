@@ -7,19 +7,22 @@ ghost use Rattle.lines.specs.PrincipalsAbove.{one_if, mask_above, number_above};
 use lattice::Table;
 use store::Opened;
 
-// How many principals have a mask: as many as the sheet says, and no more than there may be.
+// How many principals the sheet says that there are, in one byte: the cast loses nothing.
+pub(crate) fn said_principals(sheet: &[u8]) -> usize
+    ensures value { result ≡ n_of sheet.now }
+    ensures small { result < 256 }
+{
+    store::number_at(sheet, 0, 1) as usize
+}
+
+// How many have a mask: as many as the sheet says, and no more than there may be.
 fn principals_of(sheet: &[u8]) -> usize
     ensures { result ≡ min most_principals (n_of sheet.now) }
 {
-    let said = store::number_at(sheet, 0, 1) as usize;
-    if said < Table::MOST {
-        said
-    } else {
-        Table::MOST
-    }
+    said_principals(sheet).min(Table::MOST)
 }
 
-// Mask p of the sheet's order table.
+// Mask p of the sheet's order table, in four bytes: the cast loses nothing.
 fn mask_at(sheet: &[u8], p: usize) -> u32
     requires { p < min most_principals (n_of sheet.now) }
     ensures { result ≡ mask (order_of sheet.now) p }
@@ -32,27 +35,25 @@ fn with_bit(m: u32, p: usize, set: bool) -> u32
     requires { (m < 2 ^ p) × (p < most_principals) }
     ensures { result ≡ m + one_if set * 2 ^ p }
 {
-    if set { m + (1u32 << p) } else { m }
+    m + (u32::from(set) << p)
 }
 
 // The mask of the principals that stand at or above the owner.
 fn mask_above(sheet: &[u8], owner: usize) -> u32
     ensures { result ≡ mask_above (order_of sheet.now) owner }
 {
-    let n = principals_of(sheet);
-    let mut above: u32 = 0;
-    let mut p = 0;
-    while p < n {
+    let mut above = 0;
+    for p in 0..principals_of(sheet) {
         let stands = lattice::has_bit(mask_at(sheet, p), owner);
         above = with_bit(above, p, stands);
-        p += 1;
     }
     above
 }
 
 // How many they are.
+#[tactic(auto, using(crate::proofs::PrincipalsAbove::ones_above))]
 pub(crate) fn number_above(sheet: &[u8], owner: usize) -> u64
     ensures { result ≡ number_above (order_of sheet.now) owner }
 {
-    u32::count_ones(mask_above(sheet, owner)) as u64
+    u64::from(mask_above(sheet, owner).count_ones())
 }

@@ -8,7 +8,7 @@ mod putting;
 ghost use Rattle.lines.specs.Lines.{answer_fields};
 ghost use Rattle.lines.specs.PutText.{Begins};
 
-use putting::put_fields;
+use putting::Writer;
 pub use putting::{put_answer, put_lines};
 use store::{Answer, Opened};
 
@@ -34,8 +34,11 @@ impl Text {
 }
 
 // What line 1 says of an answer, without its end: how many bytes at the start of the text are all of it.
+#[tactic(auto, using(crate::proofs::PutText::begins))]
 pub fn print_answer(a: Answer, text: &mut [u8; Text::FIELDS]) -> usize
     ensures { Begins text.old (answer_fields a) result text.new }
 {
-    put_fields(text, a)
+    let mut w = Writer::new(text);
+    w.put_fields(a);
+    w.end
 }

@@ -7,11 +7,13 @@ use lib.ListN.{length, drop, replicate, length-drop, length-replicate, get_or-re
 use Rattle.lattice.specs.declared.Table.{Table}
 use Rattle.lattice.specs.Order.{top}
 use Rattle.values.specs.Result.{Result, ◌>>=◌, refused_as}
+use Rattle.store.specs.declared.HeldSlot.{HeldSlot}
 use Rattle.store.specs.Sheet.{Tables}
 use Rattle.syntax.specs.Syntax.{Cmd}
 use Rattle.syntax.specs.Code.{most_deep}
 use Rattle.syntax.specs.Sheet.{Block, header_at}
-use Rattle.syntax.specs.Rows.{Compiled, size}
+use Rattle.syntax.specs.declared.Compiled.{Compiled}
+use Rattle.syntax.specs.Rows.{size}
 use Rattle.calculus.specs.Rules.{RuleSet}
 use Rattle.calculus.specs.Calculus.{Limits, Setting, State}
 use Rattle.calculus.specs.Blocks.{Halt, halt_in, setting, run_blocks}
@@ -39,7 +41,7 @@ everywhere_held {t} {l} {x} h =
     }
 
 -- A block from its first row on: the top is its branch label at every depth
-unfoldable pub block_goes : (w : Setting) (t : Compiled) (row steps free room x : ℕ) (held : List (List ℕ)) → LabelHeld w.tables.order (top w.tables.order) x
+unfoldable pub block_goes : (w : Setting) (t : Compiled) (row steps free room x : ℕ) (held : List HeldSlot) → LabelHeld w.tables.order (top w.tables.order) x
     → (s : State) → StateHeld w room held steps free s → steps ≤ w.limits.budget → (o : ℕ) (c : Cmd) → BlockAt t row o c
     → GoesOn w t (span_of c row) room (place row steps free (everywhere x) held) (play w c (top w.tables.order) s)
 block_goes w t row steps free room x held u s k le o c b =
@@ -54,19 +56,19 @@ block_goes w t row steps free room x held u s k le o c b =
 -- Blocks that are played from their starts (for the second pass)
 
 module _ (w : Tables) (rules : RuleSet) (m : Limits) (g : Played) (p : List ℕ) (k : ℕ) where
-  pub record Next (from : Place) (held : List (List ℕ)) (whole : Result Halt State) (l : LeftToPlay w rules m g p k from held whole) : Type 0 where
+  pub record Next (from : Place) (held : List HeldSlot) (whole : Result Halt State) (l : LeftToPlay w rules m g p k from held whole) : Type 0 where
     pub block : Block
     pub rest : List Block
     pub is : l.rest ≡ block ∷ rest
 
-  pub left_next : (from : Place) (held : List (List ℕ)) (whole : Result Halt State) → from.block < k → (l : LeftToPlay w rules m g p k from held whole) → Next from held whole l
+  pub left_next : (from : Place) (held : List HeldSlot) (whole : Result Halt State) → from.block < k → (l : LeftToPlay w rules m g p k from held whole) → Next from held whole l
   left_next from held whole h l = go l.rest refl l.count
     where
       go : (rest : List Block) → l.rest ≡ rest → from.block + length rest ≡ k → Next from held whole l
       go [] q e = absurd (omega arith)
       go (b ∷ bs) q e = record { block = b; rest = bs; is = q }
 
-  module _ (from : Place) (held : List (List ℕ)) (whole : Result Halt State) (l : LeftToPlay w rules m g p k from held whole) (n : Next from held whole l) where
+  module _ (from : Place) (held : List HeldSlot) (whole : Result Halt State) (l : LeftToPlay w rules m g p k from held whole) (n : Next from held whole l) where
     pub headers : HeadersAt w.order.n p from.block (n.block ∷ n.rest)
     headers = rw n.is at l.headers
 

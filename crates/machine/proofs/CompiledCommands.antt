@@ -1,16 +1,18 @@
 -- A command that stands in the compiled tables: what its rows are, and where its parts stand. Assumes nothing.
 use Prim.Native.Nat.{ℕ, zero, suc, ◌+◌, ◌≤◌}
-use mathlib.Core.Path.{◌≡◌, refl, ap}
+use mathlib.Core.Path.{◌≡◌, refl}
 use mathlib.Core.Logic.{◌⊎◌, inl, inr}
 use mathlib.Core.List.{List, [], ◌∷◌, ◌++◌, append-nil}
 use native.Mathlib.Omega.{arith}
-use lib.ListN.{length, get_or, length-append}
+use lib.ListN.{length, length-append}
 use Rattle.syntax.specs.Syntax.{Expr, Cmd, cmd, assign, seq, if, while, Cmds, cons, Exprs, ExprsAll}
 use Rattle.syntax.specs.declared.Operand.{Operand}
-use Rattle.syntax.specs.Rows.{Compiled, jump_row, end_row, operands_of, cmd_operands, all_operands, between, past, rows_of, rows_all, size, Shallow, ShallowAll, most_rows}
+use Rattle.syntax.specs.declared.Compiled.{Compiled}
+use Rattle.syntax.specs.declared.Row.{Row}
+use Rattle.syntax.specs.Rows.{jump_row, end_row, operands_of, cmd_operands, all_operands, between, past, rows_of, rows_all, size, Shallow, ShallowAll, most_rows}
 use Rattle.syntax.proofs.Rows.{rows_length}
 use Rattle.machine.specs.CompiledRuns.{SoundExpr, AssignAt, GuardAt, JumpAt, EndAt, BlockAt}
-use Rattle.machine.proofs.CompiledTables.{PartAt, part_front, part_rest, part_tail, part_later, assign_at, guard_at, jump_at, end_at}
+use Rattle.machine.proofs.CompiledTables.{kind_guard, PartAt, part_front, part_rest, part_tail, part_later, assign_at, guard_at, jump_at, end_at}
 
 module _ (t : Compiled) where
   -- a command inside d guards stands from row r and operand o on, and so do commands one after the other
@@ -58,11 +60,11 @@ module _ (t : Compiled) where
   Way r r' = (r ≡ r') ⊎ JumpAt t r r'
 
   -- After a then-part: the way from its end past the else-part, and the else-part. Where that has rows, the way is a jump; else it is empty.
-  record Past (mid other after o : ℕ) (rows : List (List ℕ)) (xs : List Operand) : Type 0 where
+  record Past (mid other after o : ℕ) (rows : List Row) (xs : List Operand) : Type 0 where
     way : Way mid after
     part : PartAt t other o rows xs
 
-  past_then : (n mid other after o : ℕ) (rows : List (List ℕ)) (xs : List Operand) → other ≡ mid + between n → after ≡ other + n
+  past_then : (n mid other after o : ℕ) (rows : List Row) (xs : List Operand) → other ≡ mid + between n → after ≡ other + n
       → PartAt t mid o (past n after ++ rows) xs → Past mid other after o rows xs
   unfolding between past
   past_then zero mid other after o rows xs e f h =
@@ -131,7 +133,7 @@ module _ (t : Compiled) where
         guard = a;
         operand = inner;
         body = record { part = part_front t (r + 1) inner first (jump_row r ∷ []) (cmd_operands c) [] parts; shallow = h.shallow.1; exprs = h.exprs.1 };
-        back = jump_at t mid _ second (inr (ap (λ (y : List ℕ). get_or y 0 0) a.holds));
+        back = jump_at t mid _ second (inr (kind_guard a.holds));
       }
 
   -- a block: its command, and its end row

@@ -6,13 +6,14 @@ use mathlib.Core.Bool.{false}
 use mathlib.Core.List.{List, [], ◌∷◌, ◌++◌}
 use native.Mathlib.Numerals.{add-one}
 use native.Mathlib.Omega.{arith}
-use lib.ListN.{length, get_or}
+use lib.ListN.{length}
 use Rattle.values.specs.Result.{Result, ok, ◌>>=◌}
 use Rattle.values.specs.declared.Value.{Value}
 use Rattle.values.specs.Value.{is_write_view}
 use Rattle.values.proofs.Result.{Post, Any, post_refuse, post_all, post_bind, bind_ok, bind_assoc}
 use Rattle.syntax.specs.Syntax.{Op, Expr, literal, read, operation, LiteralsOf}
 use Rattle.syntax.specs.Code.{most_nested}
+use Rattle.syntax.specs.declared.Operand.{Operand}
 use Rattle.syntax.specs.Rows.{more_come, postfix, Nests, most_operands}
 use Rattle.syntax.proofs.RowsPostfix.{own, operation_length}
 use Rattle.calculus.specs.Calculus.{Setting, Store, Labelled, fetch, operate, eval}
@@ -164,8 +165,8 @@ module _ (w : Setting) (s : Store) (t : Operands) where
   pub only_here : {o : ℕ} {whole : Result ℕ Labelled} → Starts o whole → reads_in t o < more_come → Only o whole
   only_here (only v reads l m e) h =
       let q : reads % more_come ≡ reads = omega arith in record { value = v; reads = reads; is = l; same = rw (← q) at e }
-  only_here (more a p) h = absurd (omega (arith, ap (λ (r : List ℕ). get_or r 1 0) a.is.is.head))
+  only_here (more a p) h = absurd (omega (arith, ap (λ (r : Operand). r.reads) a.is.is.same))
 
   pub more_here : {o : ℕ} {whole : Result ℕ Labelled} → Starts o whole → more_come ≤ reads_in t o → AtLiteral w s t o [] whole × Post Plain Any whole
-  more_here (only v reads l m e) h = absurd (omega (arith, ap (λ (r : List ℕ). get_or r 1 0) l.is.head))
+  more_here (only v reads l m e) h = absurd (omega (arith, ap (λ (r : Operand). r.reads) l.is.same))
   more_here (more a p) h = (a, p)

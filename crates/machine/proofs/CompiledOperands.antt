@@ -13,24 +13,23 @@ use Rattle.values.specs.declared.Value.{Value}
 use Rattle.values.specs.Value.{integer, truth, read_view, write_view, kinds, well_formed}
 use Rattle.syntax.specs.Syntax.{Op, sum, difference, less, equal, literal}
 use Rattle.syntax.specs.Code.{most_nested}
-use Rattle.syntax.specs.Rows.{more_come, byte_of, most_operands}
+use Rattle.syntax.specs.declared.Operand.{Operand}
+use Rattle.syntax.specs.Rows.{more_come, no_operand, byte_of, most_operands}
 use Rattle.calculus.specs.Calculus.{Setting, Store, Labelled, fetch, operate, eval}
-use Rattle.machine.specs.declared.expressions.Evaluated.{Evaluated}
-use Rattle.machine.specs.Answers.{Got, got}
+use Rattle.machine.specs.Answers.{Got}
 use Rattle.machine.specs.MachineNumbers.{ValueHeld, EvaluatedAs}
 use Rattle.machine.specs.CompiledRuns.{Operands, Formed}
 use Rattle.machine.specs.CompiledExpressions.{LiteralAt, OperationAt, read_times, Evals, literals, operations, ends}
 use Rattle.machine.specs.MachineContracts.{Grounds, Behind, ReadsThrough, Operates}
-use Rattle.machine.proofs.Answers.{got_value_law, got_refused}
 use Rattle.machine.proofs.LiteralReads.{gave, refused, times_none, times_one, times_refused}
 use Rattle.machine.proofs.OperationAnswers.{no_read, operated_as}
 
--- what the head of operand o says
+-- what operand o says
 abbrev pub kind_in : Operands → ℕ → ℕ
-kind_in t o = get_or (get_or t.heads o []) 0 0
+kind_in t o = (get_or t o no_operand).kind
 
 abbrev pub reads_in : Operands → ℕ → ℕ
-reads_in t o = get_or (get_or t.heads o []) 1 0
+reads_in t o = (get_or t o no_operand).reads
 
 -- the kind of an operand tells literals from operations
 byte_high : (o : Op) → kinds ≤ byte_of o
@@ -88,8 +87,8 @@ module _ (w : Setting) (s : Store) (t : Operands) where
   pub literal_here : {o : ℕ} {xs : List Labelled} {whole : Result ℕ Labelled} → Evals w s t o xs whole → kind_in t o < kinds → AtLiteral o xs whole
   literal_here (literals v reads k l m n e z) h =
       record { value = v; reads = reads; rest = k; is = l; few = m; room = n; same = e; next = z }
-  literal_here (operations op reads x y k l m e z) h = absurd (omega (arith, ap (λ (r : List ℕ). get_or r 0 0) l.head, byte_high op))
-  literal_here (ends op reads x y l m e) h = absurd (omega (arith, ap (λ (r : List ℕ). get_or r 0 0) l.head, byte_high op))
+  literal_here (operations op reads x y k l m e z) h = absurd (omega (arith, ap (λ (r : Operand). r.kind) l.same, byte_high op))
+  literal_here (ends op reads x y l m e) h = absurd (omega (arith, ap (λ (r : Operand). r.kind) l.same, byte_high op))
 
   -- where no value is known or one, no operation can come
   pub first_here : {o : ℕ} {whole : Result ℕ Labelled} → Evals w s t o [] whole → AtLiteral o [] whole
@@ -101,7 +100,7 @@ module _ (w : Setting) (s : Store) (t : Operands) where
   pub operation_here : {o : ℕ} {y : Labelled} {ys : List Labelled} {whole : Result ℕ Labelled} → Evals w s t o (y ∷ ys) whole → kinds ≤ kind_in t o
       → AtOperation o y ys whole
   operation_here (literals v reads k l m n e z) h =
-      absurd (formed_low v l.formed (omega (arith, ap (λ (r : List ℕ). get_or r 0 0) l.is.head)))
+      absurd (formed_low v l.formed (omega (arith, ap (λ (r : Operand). r.kind) l.is.same)))
   operation_here (operations {xs = xs} op reads x y k l m e z) h =
       record { op = op; reads = more_come + reads; left = x; rest = xs; is = l; known = refl; after = After.goes k refl m e z }
   operation_here (ends op reads x y l m e) h =
@@ -110,8 +109,8 @@ module _ (w : Setting) (s : Store) (t : Operands) where
   -- the last operand is an operation
   pub last_here : {o : ℕ} {y : Labelled} {ys : List Labelled} {whole : Result ℕ Labelled} → Evals w s t o (y ∷ ys) whole → reads_in t o < more_come
       → AtOperation o y ys whole
-  last_here (literals v reads k l m n e z) h = absurd (omega (arith, ap (λ (r : List ℕ). get_or r 1 0) l.is.head))
-  last_here (operations op reads x y k l m e z) h = absurd (omega (arith, ap (λ (r : List ℕ). get_or r 1 0) l.head))
+  last_here (literals v reads k l m n e z) h = absurd (omega (arith, ap (λ (r : Operand). r.reads) l.is.same))
+  last_here (operations op reads x y k l m e z) h = absurd (omega (arith, ap (λ (r : Operand). r.reads) l.same))
   last_here (ends op reads x y l m e) h =
       record { op = op; reads = reads; left = x; rest = []; is = l; known = refl; after = After.stops m e }
 
@@ -142,59 +141,58 @@ module _ (w : Setting) (s : Store) (t : Operands) where
   after_more {r = r} {z = z} (After.goes {reads = reads} k i m e f) n q = rw (rw (times_none w s reads r (omega arith), q) at e) (f z)
 
   -- what the code reads through a literal, and what it makes of two values, mean the definitions'
-  module _ {g : Grounds} {o : ℕ} (r : Evaluated) where
-    pub read_as : {xs : List Labelled} {whole : Result ℕ Labelled} (a : AtLiteral o xs whole) → Behind g w s → ReadsThrough g t o (got r)
-        → EvaluatedAs w.tables.order (got r) (read_times w s a.reads (eval w s (literal a.value)))
+  module _ {g : Grounds} {o : ℕ} (r : Got) where
+    pub read_as : {xs : List Labelled} {whole : Result ℕ Labelled} (a : AtLiteral o xs whole) → Behind g w s → ReadsThrough g t o r
+        → EvaluatedAs w.tables.order r (read_times w s a.reads (eval w s (literal a.value)))
     read_as a b m =
         let e : (more_come + a.reads) % more_come ≡ a.reads = omega (arith, a.few) in
         rw e at (m w s a.value (more_come + a.reads) b a.is)
 
     pub done_as : {y : Labelled} {ys : List Labelled} {whole : Result ℕ Labelled} (a : AtOperation o y ys whole) → Behind g w s → {k p l k' p' l' : ℕ}
-        → ValueHeld w.tables.order a.left k p l → ValueHeld w.tables.order y k' p' l' → Operates (kind_in t o) k p k' p' (bit_and l l') (got r)
-        → EvaluatedAs w.tables.order (got r) (operate w a.op a.left y)
+        → ValueHeld w.tables.order a.left k p l → ValueHeld w.tables.order y k' p' l' → Operates (kind_in t o) k p k' p' (bit_and l l') r
+        → EvaluatedAs w.tables.order r (operate w a.op a.left y)
     done_as {y = y} a b h i m =
-        rw (m a.op (sym (ap (λ (z : List ℕ). get_or z 0 0) a.is.head))) (operated_as w a.op a.left y h i b.serves.grounds.table)
+        rw (m a.op (sym (ap (λ (z : Operand). z.kind) a.is.same))) (operated_as w a.op a.left y h i b.serves.grounds.table)
 
   -- The value of the literal at operand o, as the code has it: a refusal is the whole's, or it comes before the values that are known.
-  module _ {o : ℕ} {xs : List Labelled} {whole : Result ℕ Labelled} (a : AtLiteral o xs whole) (r : Evaluated)
-      (m : EvaluatedAs w.tables.order (got r) (read_times w s a.reads (eval w s (literal a.value)))) where
-    pub literal_refused : (r.refusal ≡ 0 → ⊥) → EvaluatedAs w.tables.order (Got.Refused r.refusal) whole
+  module _ {o : ℕ} {xs : List Labelled} {whole : Result ℕ Labelled} (a : AtLiteral o xs whole) where
+    pub literal_refused : {n : ℕ} → EvaluatedAs w.tables.order (Got.Refused n) (read_times w s a.reads (eval w s (literal a.value)))
+        → EvaluatedAs w.tables.order (Got.Refused n) whole
     unfolding ◌>>=◌
-    literal_refused n = rw (a.same, refused (rw (got_refused r n) at m)) EvaluatedAs.refuses
+    literal_refused m = rw (a.same, refused m) EvaluatedAs.refuses
 
-    pub record Comes : Type 0 where
+    pub record Comes (k p l : ℕ) : Type 0 where
       pub value : Labelled
-      pub held : ValueHeld w.tables.order value r.kind r.payload r.label
+      pub held : ValueHeld w.tables.order value k p l
       pub evals : Evals w s t (o + 1) (value ∷ xs) whole
 
-    pub literal_comes : r.refusal ≡ 0 → Comes
+    pub literal_comes : {k p l : ℕ} → EvaluatedAs w.tables.order (Got.Value k p l) (read_times w s a.reads (eval w s (literal a.value))) → Comes k p l
     unfolding ◌>>=◌
-    literal_comes z =
-        let g = gave (rw (got_value_law r z) at m) in
+    literal_comes m =
+        let g = gave m in
         record { value = g.answer; held = g.held; evals = rw (rw g.same at a.same) (a.next g.answer) }
 
   -- The answer of an operation there, as the code has it
-  module _ {o : ℕ} {y : Labelled} {ys : List Labelled} {whole : Result ℕ Labelled} (a : AtOperation o y ys whole) (r : Evaluated)
-      (m : EvaluatedAs w.tables.order (got r) (operate w a.op a.left y)) where
+  module _ {o : ℕ} {y : Labelled} {ys : List Labelled} {whole : Result ℕ Labelled} (a : AtOperation o y ys whole) where
     reads_are : a.reads ≡ reads_in t o
-    reads_are = sym (ap (λ (r : List ℕ). get_or r 1 0) a.is.head)
+    reads_are = sym (ap (λ (r : Operand). r.reads) a.is.same)
 
-    pub operation_refused : (r.refusal ≡ 0 → ⊥) → EvaluatedAs w.tables.order (Got.Refused r.refusal) whole
-    operation_refused n = rw (after_refused a.after (refused (rw (got_refused r n) at m))) EvaluatedAs.refuses
+    pub operation_refused : {n : ℕ} → EvaluatedAs w.tables.order (Got.Refused n) (operate w a.op a.left y) → EvaluatedAs w.tables.order (Got.Refused n) whole
+    operation_refused m = rw (after_refused a.after (refused m)) EvaluatedAs.refuses
 
     pub operation_read : (reads_in t o ≡ 0 → ⊥) → (reads_in t o ≡ more_come → ⊥) → EvaluatedAs w.tables.order (Got.Refused 13) whole
     operation_read f g =
         rw (after_read a.after (λ e. f (sym reads_are ∙ e)) (λ e. g (sym reads_are ∙ e)) (no_read w a.op a.left y s)) EvaluatedAs.refuses
 
-    pub operation_ends : reads_in t o ≡ 0 → EvaluatedAs w.tables.order (got r) whole
-    operation_ends q = rw (after_last a.after (reads_are ∙ q)) m
+    pub operation_ends : (r : Got) → EvaluatedAs w.tables.order r (operate w a.op a.left y) → reads_in t o ≡ 0 → EvaluatedAs w.tables.order r whole
+    operation_ends r m q = rw (after_last a.after (reads_are ∙ q)) m
 
-    pub record Goes : Type 0 where
+    pub record Goes (k p l : ℕ) : Type 0 where
       pub value : Labelled
-      pub held : ValueHeld w.tables.order value r.kind r.payload r.label
+      pub held : ValueHeld w.tables.order value k p l
       pub evals : Evals w s t (o + 1) (value ∷ a.rest) whole
 
-    pub operation_goes : r.refusal ≡ 0 → reads_in t o ≡ more_come → Goes
-    operation_goes z q =
-        let g = gave (rw (got_value_law r z) at m) in
+    pub operation_goes : {k p l : ℕ} → EvaluatedAs w.tables.order (Got.Value k p l) (operate w a.op a.left y) → reads_in t o ≡ more_come → Goes k p l
+    operation_goes m q =
+        let g = gave m in
         record { value = g.answer; held = g.held; evals = after_more a.after (reads_are ∙ q) g.same }

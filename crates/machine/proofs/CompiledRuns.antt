@@ -13,7 +13,8 @@ use Rattle.values.specs.Result.{Result, ok, refuse, ◌>>=◌, refused_as}
 use Rattle.values.proofs.Result.{post_at, bind_ok, bind_assoc}
 use Rattle.syntax.specs.Syntax.{Expr, Cmd, cmd, Body, skip, assign, seq, if, while, Cmds, nil, cons}
 use Rattle.syntax.specs.Code.{most_deep}
-use Rattle.syntax.specs.Rows.{Compiled, between, size, size_body, size_all}
+use Rattle.syntax.specs.declared.Compiled.{Compiled}
+use Rattle.syntax.specs.Rows.{between, size, size_body, size_all}
 use Rattle.calculus.specs.Calculus.{Setting, State, Stop, Judged, Write, judge, attempt, step, counted, recorded, performed, stop_at, choose}
 use Rattle.pausing.specs.Paths.{Open, Pause, pause_at, within, rounds, play, play_body, play_all}
 use Rattle.calculus.proofs.Steps.{Counted, made}

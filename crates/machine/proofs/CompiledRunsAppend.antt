@@ -5,7 +5,7 @@ use mathlib.Core.List.{List}
 use native.Mathlib.Omega.{arith}
 use Rattle.values.specs.Result.{Result, ok}
 use Rattle.values.proofs.Result.{Post, Any, post_ok, post_self, post_map, post_both, post_bind, post_refused_as}
-use Rattle.syntax.specs.Rows.{Compiled}
+use Rattle.syntax.specs.declared.Compiled.{Compiled}
 use Rattle.calculus.specs.Calculus.{Setting, State, step, recorded, counted, performed}
 use Rattle.pausing.specs.Paths.{Pause}
 use Rattle.calculus.proofs.CalculusJournal.{Extends, extends_refl, extends_trans}

@@ -1,22 +1,48 @@
 -- Lists of rows and operands that stand in the compiled tables, taken apart; and where a compiled programme's blocks stand. Assumes nothing.
 use Prim.Native.Nat.{ℕ, suc, ◌+◌, ◌<◌, ◌≤◌}
-use mathlib.Core.Path.{◌≡◌, ap, ◌∙◌}
+use mathlib.Core.Path.{◌≡◌, refl, ap, ◌∙◌}
 use mathlib.Core.Logic.{◌⊎◌}
-use mathlib.Core.List.{List, [], ◌∷◌, ◌++◌, map-append}
+use mathlib.Core.List.{List, [], ◌∷◌, ◌++◌}
 use native.Mathlib.Omega.{arith}
-use lib.ListN.{length, get_or, take, drop, length-append, length-map, get_or-append}
+use lib.ListN.{length, get_or, take, drop, length-append, get_or-append}
 use lib.Seq.{sets, sets-eq, append_snoc, get_or-append-add, length-take-le}
 use Rattle.syntax.specs.declared.Operand.{Operand}
 use Rattle.syntax.specs.Syntax.{Expr}
 use Rattle.syntax.specs.Code.{most_deep}
-use Rattle.syntax.specs.Rows.{Compiled, assign_row, guard_row, guard_kind, jump_row, end_row, operands_of, head_of, heads_of, payloads_of, cmd_operands, size, rows_of, blocks_rows, blocks_operands, filled, compiled, most_rows, most_operands}
+use Rattle.syntax.specs.declared.Compiled.{Compiled}
+use Rattle.syntax.specs.declared.Row.{Row}
+use Rattle.syntax.specs.Rows.{kind_of, offset_of, end_kind, assign_kind, jump_kind, assign_row, guard_row, guard_kind, jump_row, end_row, operands_of, no_operand, cmd_operands, size, rows_of, blocks_rows, blocks_operands, filled, compiled, most_rows, most_operands}
 use Rattle.syntax.specs.Sheet.{Block}
 use Rattle.syntax.proofs.Rows.{rows_length}
-use Rattle.machine.specs.CompiledRuns.{kind_at, Operands, operand_tables, OperandsAt, SoundExpr, AssignAt, GuardAt, JumpAt, EndAt, StandsAt, BlocksAt, AllSound}
+use Rattle.machine.specs.CompiledRuns.{kind_at, Operands, OperandsAt, SoundExpr, AssignAt, GuardAt, JumpAt, EndAt, StandsAt, BlocksAt, AllSound}
 use Rattle.machine.specs.CompiledExpressions.{OperandAt}
 
-abbrev payload_of : Operand → ℕ
-payload_of x = x.payload
+-- which row it is, and the offset of its command
+module _ {x : Row} where
+  pub kind_end : x ≡ end_row → kind_of x ≡ end_kind
+  unfolding kind_of
+  kind_end e = ap kind_of e
+
+  pub kind_jump : {target : ℕ} → x ≡ jump_row target → kind_of x ≡ jump_kind
+  unfolding kind_of
+  kind_jump e = ap kind_of e
+
+  module _ {depth at first second : ℕ} where
+    pub kind_assign : x ≡ assign_row depth at first second → kind_of x ≡ assign_kind
+    unfolding kind_of
+    kind_assign e = ap kind_of e
+
+    pub kind_guard : x ≡ guard_row depth at first second → kind_of x ≡ guard_kind
+    unfolding kind_of
+    kind_guard e = ap kind_of e
+
+    pub offset_assign : x ≡ assign_row depth at first second → offset_of x ≡ at
+    unfolding offset_of
+    offset_assign e = ap offset_of e
+
+    pub offset_guard : x ≡ guard_row depth at first second → offset_of x ≡ at
+    unfolding offset_of
+    offset_guard e = ap offset_of e
 
 -- A list that stands in a table: its first entry, the rest, and both parts of two lists one after the other.
 module _ {A : Type 0} (none : A) (table : List A) (i : ℕ) where
@@ -62,66 +88,61 @@ module _ (t : Operands) (o : ℕ) where
   operand_head x xs h =
       record {
         inside = omega (arith, h.fits);
-        head = stands_head [] t.heads o (head_of x) (heads_of xs) h.heads;
-        payload = stands_head 0 t.payloads o x.payload (payloads_of xs) h.payloads;
+        same = stands_head no_operand t o x xs h.stands;
       }
 
   pub operands_front : (xs ys : List Operand) → OperandsAt t o (xs ++ ys) → OperandsAt t o xs
   operands_front xs ys h =
       record {
-        heads = stands_front [] t.heads o (heads_of xs) (heads_of ys) (rw (map-append head_of xs ys) at h.heads);
-        payloads = stands_front 0 t.payloads o (payloads_of xs) (payloads_of ys) (rw (map-append payload_of xs ys) at h.payloads);
+        stands = stands_front no_operand t o xs ys h.stands;
         fits = omega (arith, h.fits, length-append xs ys);
       }
 
   pub operands_rest : (xs ys : List Operand) → OperandsAt t o (xs ++ ys) → OperandsAt t (o + length xs) ys
   operands_rest xs ys h =
       record {
-        heads = stands_rest [] t.heads o (heads_of xs) (heads_of ys) (o + length xs) (omega (arith, length-map xs head_of))
-            (rw (map-append head_of xs ys) at h.heads);
-        payloads = stands_rest 0 t.payloads o (payloads_of xs) (payloads_of ys) (o + length xs) (omega (arith, length-map xs payload_of))
-            (rw (map-append payload_of xs ys) at h.payloads);
+        stands = stands_rest no_operand t o xs ys (o + length xs) refl h.stands;
         fits = omega (arith, h.fits, length-append xs ys);
       }
 
 -- Rows and operands stand together.
-pub record PartAt (t : Compiled) (r o : ℕ) (rows : List (List ℕ)) (xs : List Operand) : Type 0 where
-  pub rows_at : StandsAt [] t.rows r rows
-  pub operands_at : OperandsAt (operand_tables t) o xs
+pub record PartAt (t : Compiled) (r o : ℕ) (rows : List Row) (xs : List Operand) : Type 0 where
+  pub rows_at : StandsAt end_row t.rows r rows
+  pub operands_at : OperandsAt t.operands o xs
   pub fits : r + length rows ≤ most_rows
 
 module _ (t : Compiled) (r o : ℕ) where
   -- the first rows with the first operands, and what follows them
-  pub part_front : (rs ss : List (List ℕ)) (xs ys : List Operand) → PartAt t r o (rs ++ ss) (xs ++ ys) → PartAt t r o rs xs
+  pub part_front : (rs ss : List Row) (xs ys : List Operand) → PartAt t r o (rs ++ ss) (xs ++ ys) → PartAt t r o rs xs
   part_front rs ss xs ys h =
       record {
-        rows_at = stands_front [] t.rows r rs ss h.rows_at;
-        operands_at = operands_front (operand_tables t) o xs ys h.operands_at;
+        rows_at = stands_front end_row t.rows r rs ss h.rows_at;
+        operands_at = operands_front t.operands o xs ys h.operands_at;
         fits = omega (arith, h.fits, length-append rs ss);
       }
 
-  pub part_rest : (rs ss : List (List ℕ)) (xs ys : List Operand) (n : ℕ) → n ≡ r + length rs → PartAt t r o (rs ++ ss) (xs ++ ys)
+  pub part_rest : (rs ss : List Row) (xs ys : List Operand) (n : ℕ) → n ≡ r + length rs → PartAt t r o (rs ++ ss) (xs ++ ys)
       → PartAt t n (o + length xs) ss ys
   part_rest rs ss xs ys n p h =
       record {
-        rows_at = stands_rest [] t.rows r rs ss n p h.rows_at;
-        operands_at = operands_rest (operand_tables t) o xs ys h.operands_at;
+        rows_at = stands_rest end_row t.rows r rs ss n p h.rows_at;
+        operands_at = operands_rest t.operands o xs ys h.operands_at;
         fits = omega (arith, h.fits, length-append rs ss);
       }
 
   -- without the first row, and with or without the first operands, where they are the row's
-  pub part_tail : {row : List ℕ} {rows : List (List ℕ)} (xs ys : List Operand) → PartAt t r o (row ∷ rows) (xs ++ ys)
+  pub part_tail : {row : Row} {rows : List Row} (xs ys : List Operand) → PartAt t r o (row ∷ rows) (xs ++ ys)
       → PartAt t (r + 1) (o + length xs) rows ys
   part_tail {row} {rows} xs ys h =
       record {
-        rows_at = stands_tail [] t.rows r row rows h.rows_at;
-        operands_at = operands_rest (operand_tables t) o xs ys h.operands_at;
+        rows_at = stands_tail end_row t.rows r row rows h.rows_at;
+        operands_at = operands_rest t.operands o xs ys h.operands_at;
         fits = omega (arith, h.fits);
       }
 
-  pub part_later : {row : List ℕ} {rows : List (List ℕ)} {xs : List Operand} → PartAt t r o (row ∷ rows) xs → PartAt t (r + 1) o rows xs
+  pub part_later : {row : Row} {rows : List Row} {xs : List Operand} → PartAt t r o (row ∷ rows) xs → PartAt t (r + 1) o rows xs
   part_later {row} {rows} h =
-      record { rows_at = stands_tail [] t.rows r row rows h.rows_at; operands_at = h.operands_at; fits = omega (arith, h.fits) }
+      record { rows_at = stands_tail end_row t.rows r row rows h.rows_at; operands_at = h.operands_at; fits = omega (arith, h.fits) }
 
   -- What the first row is, as the machine meets it.
   pub assign_at : {d at : ℕ} {x v : Expr} → PartAt t r o (assign_row d at o (o + length (operands_of x)) ∷ []) (operands_of x ++ operands_of v) → d ≤ most_deep
@@ -131,31 +152,31 @@ module _ (t : Compiled) (r o : ℕ) where
       record {
         target = o;
         value = second;
-        holds = stands_head [] t.rows r (assign_row d at o second) [] h.rows_at;
+        holds = stands_head end_row t.rows r (assign_row d at o second) [] h.rows_at;
         early = omega (arith, h.fits);
         level = l;
-        target_is = record { stands = operands_front (operand_tables t) o (operands_of x) (operands_of v) h.operands_at; sound = f };
-        value_is = record { stands = operands_rest (operand_tables t) o (operands_of x) (operands_of v) h.operands_at; sound = g };
+        target_is = record { stands = operands_front t.operands o (operands_of x) (operands_of v) h.operands_at; sound = f };
+        value_is = record { stands = operands_rest t.operands o (operands_of x) (operands_of v) h.operands_at; sound = g };
       }
 
-  pub guard_at : {d at other : ℕ} {rows : List (List ℕ)} {g : Expr} (xs : List Operand) → PartAt t r o (guard_row d at o other ∷ rows) (operands_of g ++ xs)
+  pub guard_at : {d at other : ℕ} {rows : List Row} {g : Expr} (xs : List Operand) → PartAt t r o (guard_row d at o other ∷ rows) (operands_of g ++ xs)
       → d < most_deep → SoundExpr g → GuardAt t r d at g other
   guard_at {d} {at} {other} {rows} {g} xs h l f =
       record {
         operand = o;
-        holds = stands_head [] t.rows r (guard_row d at o other) rows h.rows_at;
+        holds = stands_head end_row t.rows r (guard_row d at o other) rows h.rows_at;
         early = omega (arith, h.fits);
         level = l;
-        operand_is = record { stands = operands_front (operand_tables t) o (operands_of g) xs h.operands_at; sound = f };
+        operand_is = record { stands = operands_front t.operands o (operands_of g) xs h.operands_at; sound = f };
       }
 
-  pub jump_at : {target : ℕ} {rows : List (List ℕ)} {xs : List Operand} → PartAt t r o (jump_row target ∷ rows) xs
+  pub jump_at : {target : ℕ} {rows : List Row} {xs : List Operand} → PartAt t r o (jump_row target ∷ rows) xs
       → (r < target) ⊎ (kind_at t target ≡ guard_kind) → JumpAt t r target
   jump_at {target} {rows} h f =
-      record { holds = stands_head [] t.rows r (jump_row target) rows h.rows_at; early = omega (arith, h.fits); falls = f }
+      record { holds = stands_head end_row t.rows r (jump_row target) rows h.rows_at; early = omega (arith, h.fits); falls = f }
 
-  pub end_at : {rows : List (List ℕ)} {xs : List Operand} → PartAt t r o (end_row ∷ rows) xs → EndAt t r
-  end_at {rows} h = record { holds = stands_head [] t.rows r end_row rows h.rows_at; early = omega (arith, h.fits) }
+  pub end_at : {rows : List Row} {xs : List Operand} → PartAt t r o (end_row ∷ rows) xs → EndAt t r
+  end_at {rows} h = record { holds = stands_head end_row t.rows r end_row rows h.rows_at; early = omega (arith, h.fits) }
 
 -- A programme's blocks stand where their rows and operands do.
 blocks_at : (t : Compiled) (bs : List Block) (r o : ℕ) → PartAt t r o (blocks_rows bs r o) (blocks_operands bs) → AllSound bs → BlocksAt t r o bs
@@ -177,21 +198,14 @@ blocks_at t (b ∷ bs) r o h s =
 
 -- the blocks of a programme that was compiled into tables with room for it stand there, from the first row and operand on
 pub blocks_stand : (t old : Compiled) (bs : List Block) → t ≡ compiled bs old
-    → length old.rows ≡ most_rows → length old.operands ≡ most_operands → length old.payloads ≡ most_operands
+    → length old.rows ≡ most_rows → length old.operands ≡ most_operands
     → length (blocks_rows bs 0 0) ≤ most_rows → length (blocks_operands bs) ≤ most_operands → AllSound bs → BlocksAt t 0 0 bs
 unfolding compiled filled
-blocks_stand t old bs e n m m' h k s = rw e (blocks_at (compiled bs old) bs 0 0 stood s)
+blocks_stand t old bs e n m h k s = rw e (blocks_at (compiled bs old) bs 0 0 stood s)
   where
-    xs : List Operand
-    xs = blocks_operands bs
-
     stood : PartAt (compiled bs old) 0 0 (blocks_rows bs 0 0) (blocks_operands bs)
     stood = record {
-      rows_at = sets_stand [] old.rows 0 (blocks_rows bs 0 0) (omega arith);
-      operands_at = record {
-        heads = sets_stand [] old.operands 0 (heads_of xs) (omega (arith, length-map xs head_of));
-        payloads = sets_stand 0 old.payloads 0 (payloads_of xs) (omega (arith, length-map xs payload_of));
-        fits = omega arith;
-      };
+      rows_at = sets_stand end_row old.rows 0 (blocks_rows bs 0 0) (omega arith);
+      operands_at = record { stands = sets_stand no_operand old.operands 0 (blocks_operands bs) (omega arith); fits = omega arith };
       fits = omega arith;
     }

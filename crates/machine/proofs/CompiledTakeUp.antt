@@ -11,7 +11,8 @@ use Rattle.values.specs.Result.{Result, ok, ◌>>=◌, refused_as}
 use Rattle.values.proofs.Result.{bind_ok, bind_assoc}
 use Rattle.syntax.specs.Syntax.{Cmd, cmd, Body, skip, assign, seq, if, while, Cmds, nil, cons}
 use Rattle.syntax.specs.Code.{most_deep}
-use Rattle.syntax.specs.Rows.{Compiled, between, size, size_body, size_all}
+use Rattle.syntax.specs.declared.Compiled.{Compiled}
+use Rattle.syntax.specs.Rows.{between, size, size_body, size_all}
 use Rattle.calculus.specs.Calculus.{Setting, State, choose}
 use Rattle.pausing.specs.Paths.{Open, Pause, within, play, take_up, take_up_body, take_up_all}
 use Rattle.machine.specs.CompiledRuns.{Span, Runs, ends, jumps, BlockAt, span_of}

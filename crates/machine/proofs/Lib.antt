@@ -1,4 +1,4 @@
-pub mod Answers
+pub mod Exits
 pub mod SlotRows
 pub mod OwnerLabels
 pub mod ViewAdmission

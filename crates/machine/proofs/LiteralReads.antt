@@ -2,7 +2,6 @@
 use Prim.Native.Nat.{ℕ, zero, suc, ◌-◌, ◌%◌, ◌<◌}
 use mathlib.Core.Path.{◌≡◌, refl, sym, ap, ◌∙◌}
 use mathlib.Core.Bool.{Bool, true, false}
-use mathlib.Core.List.{List, []}
 use native.Mathlib.Omega.{arith}
 use lib.ListN.{get_or}
 use lib.Bits.{bit_and}
@@ -12,9 +11,11 @@ use Rattle.lattice.specs.declared.Table.{Table}
 use Rattle.values.specs.Result.{Result, ok, refuse, ◌>>=◌, require}
 use Rattle.values.specs.declared.Value.{Value}
 use Rattle.values.specs.Value.{read_view, viewed, empty_slot}
+use Rattle.store.specs.declared.HeldSlot.{HeldSlot}
 use Rattle.store.specs.Sheet.{owner_of}
 use Rattle.syntax.specs.Syntax.{literal}
-use Rattle.syntax.specs.Rows.{more_come}
+use Rattle.syntax.specs.declared.Operand.{Operand}
+use Rattle.syntax.specs.Rows.{more_come, no_operand}
 use Rattle.calculus.specs.Calculus.{Setting, Store, Labelled, contents, may_hold, admit, fetch, eval}
 use Rattle.machine.specs.Answers.{Got}
 use Rattle.lattice.specs.HeldLabels.{LabelHeld}
@@ -64,17 +65,17 @@ module _ (w : Setting) (s : Store) where
     pub rest : read_times w s left (admit w value) ≡ whole
 
   -- a literal, with all reads to be done
-  pub ready_all : {t : Operands} {o : ℕ} {v : Value} {reads : ℕ} → LiteralAt t o v reads → (k p l left : ℕ) → k ≡ get_or (get_or t.heads o []) 0 0
-      → p ≡ get_or t.payloads o 0 → left ≡ get_or (get_or t.heads o []) 1 0 % more_come
+  pub ready_all : {t : Operands} {o : ℕ} {v : Value} {reads : ℕ} → LiteralAt t o v reads → (k p l left : ℕ) → k ≡ (get_or t o no_operand).kind
+      → p ≡ (get_or t o no_operand).payload → left ≡ (get_or t o no_operand).reads % more_come
       → LabelHeld w.tables.order (top w.tables.order) l → Ready k p l left (read_times w s (reads % more_come) (eval w s (literal v)))
   unfolding eval
   ready_all {v = v} {reads = n} x k p l left hk hp hl h =
-      let is : left ≡ n % more_come = hl ∙ ap (λ (y : List ℕ). get_or y 1 0 % more_come) x.is.head in
+      let is : left ≡ n % more_come = hl ∙ ap (λ (y : Operand). y.reads % more_come) x.is.same in
       record {
         value = record { value = v; label = top w.tables.order };
         held = record {
-          kind = sym (hk ∙ ap (λ (y : List ℕ). get_or y 0 0) x.is.head);
-          payload = sym (hp ∙ x.is.payload);
+          kind = sym (hk ∙ ap (λ (y : Operand). y.kind) x.is.same);
+          payload = sym (hp ∙ ap (λ (y : Operand). y.payload) x.is.same);
           formed = x.formed;
           label = h;
         };
@@ -120,8 +121,8 @@ module _ (w : Setting) (s : Store) where
       unfolding fetch require
       fetched q = rw (e, y.held.kind, eq-eqb k read_view q, y.held.payload) refl
 
-      pub ready_next : {g : Grounds} → Behind g w s → (row : List ℕ) → RowRead g.store i row → b ≡ true → (left ≡ 0 → ⊥) → k ≡ read_view
-          → Ready (get_or row 0 0) (get_or row 1 0) (bit_and l (get_or g.masks (get_or row 2 0) 0)) (left - 1) whole
+      pub ready_next : {g : Grounds} → Behind g w s → (row : HeldSlot) → RowRead g.store i row → b ≡ true → (left ≡ 0 → ⊥) → k ≡ read_view
+          → Ready row.kind row.payload (bit_and l (get_or g.masks row.owner 0)) (left - 1) whole
       ready_next u row f h z n =
           let x = get_or s i empty_slot in
           let o = owner_of w.tables i in

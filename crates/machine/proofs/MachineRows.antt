@@ -1,6 +1,6 @@
 -- What stands at the row at hand, what a step there comes to, and that each move lessens the machine's weight. Assumes nothing.
 use Prim.Native.Nat.{ℕ, ◌+◌, ◌-◌, ◌≤◌, ◌<◌}
-use mathlib.Core.Path.{◌≡◌, refl, ap, ◌∙◌}
+use mathlib.Core.Path.{◌≡◌, refl, ◌∙◌}
 use mathlib.Core.Bool.{Bool, true, false}
 use mathlib.Core.Logic.{◌⊎◌, inl, inr, ⊎_elim}
 use mathlib.Core.List.{List}
@@ -16,7 +16,8 @@ use Rattle.values.specs.Result.{Result, ok, refuse, ◌>>=◌, require, refused_
 use Rattle.values.proofs.Result.{post_refused}
 use Rattle.syntax.specs.Syntax.{Expr}
 use Rattle.syntax.specs.Code.{most_deep}
-use Rattle.syntax.specs.Rows.{Compiled, end_kind, assign_kind, guard_kind, jump_kind, most_rows}
+use Rattle.syntax.specs.declared.Compiled.{Compiled}
+use Rattle.syntax.specs.Rows.{assign_row, guard_row, jump_row, end_kind, assign_kind, guard_kind, jump_kind, most_rows}
 use Rattle.calculus.specs.Calculus.{Setting, Store, State, Stop, Judged, Write, judge, assignment, step, attempt, counted, performed, stop_at}
 use Rattle.pausing.specs.Paths.{Pause, pause_at}
 use Rattle.calculus.proofs.CalculusRefusals as refusals
@@ -26,6 +27,7 @@ use Rattle.machine.specs.CompiledRuns.{kind_at, AssignAt, GuardAt, JumpAt, next,
 use Rattle.machine.specs.Machine.{Given, rank, weight}
 use Rattle.pausing.specs.RowPaths.{LabelsHeld}
 use Rattle.lattice.proofs.HeldLabels.{meet_held}
+use Rattle.machine.proofs.CompiledTables.{kind_assign, kind_guard, kind_jump, kind_end}
 
 -- Steps
 
@@ -131,52 +133,58 @@ module _ {w : Setting} {t : Compiled} {span : Span} {row : ℕ} {l : List Label}
     pub guard_ends : (x : Stop) → step w a.at s (judge w s.store a.g) ≡ refuse x → whole ≡ refuse (pause_at (span.path row l) x)
     guard_ends x e = a.means ∙ refuse_then _ _ a.k x e
 
--- what stands in a row that is known
-pub entry : {r r' : List ℕ} (i : ℕ) → r ≡ r' → get_or r i 0 ≡ get_or r' i 0
-entry i e = ap (λ (r : List ℕ). get_or r i 0) e
+-- two rows that are one hold the same places
+pub same_assign : {d at x v d' at' x' v' : ℕ} → assign_row d at x v ≡ assign_row d' at' x' v' → (d ≡ d') × (x ≡ x') × (v ≡ v')
+same_assign e = (cc, cc, cc)
+
+pub same_guard : {d at x o d' at' x' o' : ℕ} → guard_row d at x o ≡ guard_row d' at' x' o' → (d ≡ d') × (x ≡ x') × (o ≡ o')
+same_guard e = (cc, cc, cc)
+
+pub same_jump : {x x' : ℕ} → jump_row x ≡ jump_row x' → x ≡ x'
+same_jump e = cc
 
 module _ {w : Setting} {t : Compiled} {span : Span} {row : ℕ} {l : List Label} {s : State} {whole : Result Pause State} where
   pub takes_assign : Runs w t span row l s whole → kind_at t row ≡ assign_kind → TakesAssign w t span row l s whole
-  takes_assign (ends e a q) z = absurd (omega (arith, entry 0 a.holds))
+  takes_assign (ends e a q) z = absurd (omega (arith, kind_end a.holds))
   takes_assign (assigns depth at x v k a i e f) z =
       record { depth = depth; at = at; x = x; v = v; k = k; stands = a; means = e; then = f }
-  takes_assign (guards depth at g other k a i e f) z = absurd (omega (arith, entry 0 a.holds))
-  takes_assign (jumps target a f) z = absurd (omega (arith, entry 0 a.holds))
+  takes_assign (guards depth at g other k a i e f) z = absurd (omega (arith, kind_guard a.holds))
+  takes_assign (jumps target a f) z = absurd (omega (arith, kind_jump a.holds))
 
   pub takes_guard : Runs w t span row l s whole → kind_at t row ≡ guard_kind → TakesGuard w t span row l s whole
-  takes_guard (ends e a q) z = absurd (omega (arith, entry 0 a.holds))
-  takes_guard (assigns depth at x v k a i e f) z = absurd (omega (arith, entry 0 a.holds))
+  takes_guard (ends e a q) z = absurd (omega (arith, kind_end a.holds))
+  takes_guard (assigns depth at x v k a i e f) z = absurd (omega (arith, kind_assign a.holds))
   takes_guard (guards depth at g other k a i e f) z =
       record { depth = depth; at = at; g = g; other = other; k = k; stands = a; means = e; then = f }
-  takes_guard (jumps target a f) z = absurd (omega (arith, entry 0 a.holds))
+  takes_guard (jumps target a f) z = absurd (omega (arith, kind_jump a.holds))
 
   pub takes_jump : Runs w t span row l s whole → kind_at t row ≡ jump_kind → TakesJump w t span row l s whole
-  takes_jump (ends e a q) z = absurd (omega (arith, entry 0 a.holds))
-  takes_jump (assigns depth at x v k a i e f) z = absurd (omega (arith, entry 0 a.holds))
-  takes_jump (guards depth at g other k a i e f) z = absurd (omega (arith, entry 0 a.holds))
+  takes_jump (ends e a q) z = absurd (omega (arith, kind_end a.holds))
+  takes_jump (assigns depth at x v k a i e f) z = absurd (omega (arith, kind_assign a.holds))
+  takes_jump (guards depth at g other k a i e f) z = absurd (omega (arith, kind_guard a.holds))
   takes_jump (jumps target a f) z = record { target = target; stands = a; then = f }
 
   -- the block's end
   pub run_ends : Runs w t span row l s whole → kind_at t row ≡ end_kind → (row ≡ span.last) × (whole ≡ ok s)
   run_ends (ends e a q) z = (e, q)
-  run_ends (assigns depth at x v k a i e f) z = absurd (omega (arith, entry 0 a.holds))
-  run_ends (guards depth at g other k a i e f) z = absurd (omega (arith, entry 0 a.holds))
-  run_ends (jumps target a f) z = absurd (omega (arith, entry 0 a.holds))
+  run_ends (assigns depth at x v k a i e f) z = absurd (omega (arith, kind_assign a.holds))
+  run_ends (guards depth at g other k a i e f) z = absurd (omega (arith, kind_guard a.holds))
+  run_ends (jumps target a f) z = absurd (omega (arith, kind_jump a.holds))
 
   -- a row that is no end and no jump is a step's
   pub step_due : Runs w t span row l s whole → (kind_at t row ≡ end_kind → ⊥) → (kind_at t row ≡ jump_kind → ⊥)
       → (kind_at t row ≡ assign_kind) ⊎ (kind_at t row ≡ guard_kind)
-  step_due (ends e a q) y z = absurd (y (entry 0 a.holds))
-  step_due (assigns depth at x v k a i e f) y z = inl (entry 0 a.holds)
-  step_due (guards depth at g other k a i e f) y z = inr (entry 0 a.holds)
-  step_due (jumps target a f) y z = absurd (z (entry 0 a.holds))
+  step_due (ends e a q) y z = absurd (y (kind_end a.holds))
+  step_due (assigns depth at x v k a i e f) y z = inl (kind_assign a.holds)
+  step_due (guards depth at g other k a i e f) y z = inr (kind_guard a.holds)
+  step_due (jumps target a f) y z = absurd (z (kind_jump a.holds))
 
   -- and stands before the block's end
   pub step_inside : Runs w t span row l s whole → (kind_at t row ≡ assign_kind) ⊎ (kind_at t row ≡ guard_kind) → InSpan span row
-  step_inside (ends e a q) z = absurd (⊎_elim (λ k. omega (arith, entry 0 a.holds)) (λ k. omega (arith, entry 0 a.holds)) z)
+  step_inside (ends e a q) z = absurd (⊎_elim (λ k. omega (arith, kind_end a.holds)) (λ k. omega (arith, kind_end a.holds)) z)
   step_inside (assigns depth at x v k a i e f) z = i
   step_inside (guards depth at g other k a i e f) z = i
-  step_inside (jumps target a f) z = absurd (⊎_elim (λ k. omega (arith, entry 0 a.holds)) (λ k. omega (arith, entry 0 a.holds)) z)
+  step_inside (jumps target a f) z = absurd (⊎_elim (λ k. omega (arith, kind_jump a.holds)) (λ k. omega (arith, kind_jump a.holds)) z)
 
   pub run_inside : Runs w t span row l s whole → row < most_rows
   run_inside (ends e a q) = a.early

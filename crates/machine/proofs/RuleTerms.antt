@@ -4,6 +4,7 @@ use mathlib.Core.Path.{◌≡◌, refl, sym, ap, ◌∙◌}
 use mathlib.Core.Bool.{Bool, true, false}
 use native.Mathlib.Omega.{arith}
 use lib.ListN.{get_or}
+use Rattle.std.proofs.Common.{Some, None}
 use borrow.Author.Tests.{ne_eqb}
 use Rattle.lattice.specs.declared.Table.{Table}
 use Rattle.lattice.specs.Order.{most_principals, good, top}
@@ -14,34 +15,34 @@ use Rattle.calculus.specs.Calculus.{Setting}
 use Rattle.machine.specs.declared.rules.Judges.{Judges}
 use Rattle.machine.specs.MachineNumbers.{judges_labels, judges_branch, floor_held, Serves}
 use Rattle.lattice.specs.HeldLabels.{LabelHeld, top_mask}
-use Rattle.machine.specs.BlockRuns.{judges_of, Under}
+use Rattle.machine.specs.BlockRuns.{judging_of, judges_of, Under}
 
 -- What the rule set of a rule number judges
-abbrev JudgesAs : Bool → Bool → Bool → Bool → Bool → ℕ → Type 0
-JudgesAs k v r l b rule = ◌≡◌ {A = Judges} (record { known = k; views = v; regions = r; labels = l; branches = b }) (judges_of (rules_of rule))
+abbrev JudgesAs : Bool → Bool → Bool → Bool → ℕ → Type 0
+JudgesAs v r l b rule = Some (record { views = v; regions = r; labels = l; branches = b }) ≡ judges_of (rules_of rule)
 
 module _ (rule : ℕ) where
-  pub judges_0 : rule ≡ 0 → JudgesAs true false true false false rule
-  unfolding judges_of rules_of judges_views judges_region judges_labels judges_branch
+  pub judges_0 : rule ≡ 0 → JudgesAs false true false false rule
+  unfolding judges_of judging_of rules_of judges_views judges_region judges_labels judges_branch
   judges_0 h = rw h
 
-  pub judges_1 : rule ≡ 1 → JudgesAs true true false false false rule
-  unfolding judges_of rules_of judges_views judges_region judges_labels judges_branch
+  pub judges_1 : rule ≡ 1 → JudgesAs true false false false rule
+  unfolding judges_of judging_of rules_of judges_views judges_region judges_labels judges_branch
   judges_1 h = rw h
 
-  pub judges_2 : rule ≡ 2 → JudgesAs true false true true false rule
-  unfolding judges_of rules_of judges_views judges_region judges_labels judges_branch
+  pub judges_2 : rule ≡ 2 → JudgesAs false true true false rule
+  unfolding judges_of judging_of rules_of judges_views judges_region judges_labels judges_branch
   judges_2 h = rw h
 
-  pub judges_3 : rule ≡ 3 → JudgesAs true false true true true rule
-  unfolding judges_of rules_of judges_views judges_region judges_labels judges_branch
+  pub judges_3 : rule ≡ 3 → JudgesAs false true true true rule
+  unfolding judges_of judging_of rules_of judges_views judges_region judges_labels judges_branch
   judges_3 h = rw h
 
-  pub judges_255 : rule ≡ 255 → JudgesAs true false true true true rule
-  unfolding judges_of rules_of judges_views judges_region judges_labels judges_branch
+  pub judges_255 : rule ≡ 255 → JudgesAs false true true true rule
+  unfolding judges_of judging_of rules_of judges_views judges_region judges_labels judges_branch
   judges_255 h = rw h
 
-  pub judges_none : (rule ≡ 0 → ⊥) → (rule ≡ 1 → ⊥) → (rule ≡ 2 → ⊥) → (rule ≡ 3 → ⊥) → (rule ≡ 255 → ⊥) → JudgesAs false false false false false rule
+  pub judges_none : (rule ≡ 0 → ⊥) → (rule ≡ 1 → ⊥) → (rule ≡ 2 → ⊥) → (rule ≡ 3 → ⊥) → (rule ≡ 255 → ⊥) → None ≡ judges_of (rules_of rule)
   unfolding judges_of rules_of
   judges_none a b c d e = rw (rules_of, ne_eqb rule 0 a, ne_eqb rule 1 b, ne_eqb rule 2 c, ne_eqb rule 3 d, ne_eqb rule 255 e)
 
@@ -67,7 +68,7 @@ pub serves_under : (w : Setting) (t : Table) (j : Judges) (h : Header) (region f
     → Serves w
     (record { views = j.views; regions = j.regions; labels = j.labels; branches = j.branches; floor = floor; region = region; top = full })
     t.masks
-unfolding judges_of
+unfolding judging_of
 serves_under w t j h region full floor u f p q =
     record {
       grounds = u.grounds;

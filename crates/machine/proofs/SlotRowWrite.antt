@@ -2,7 +2,7 @@
 use Prim.Native.Nat.{ℕ, zero, suc, ◌+◌, ◌<◌}
 use mathlib.Core.Path.{◌≡◌, refl, sym, ap, ap₂, ◌∙◌}
 use mathlib.Core.Bool.{true}
-use mathlib.Core.List.{List, [], ◌∷◌}
+use mathlib.Core.List.{List, ◌∷◌}
 use native.Mathlib.Omega.{arith}
 use native.Mathlib.Decide.{ℕ_discrete}
 use lib.ListN.{get_or, set, length-set}
@@ -10,8 +10,9 @@ use lib.Seq.{get_or-set_same, get_or-set_other}
 use Rattle.values.specs.Bytes.{entries, table}
 use Rattle.values.specs.Value.{well_formed, Slot, assigned, empty_slot}
 use Rattle.values.proofs.BytesArrays.{entries_same, table_at}
+use Rattle.store.specs.declared.HeldSlot.{HeldSlot}
 use Rattle.store.specs.Sheet.{Tables, owner_of, most_slots}
-use Rattle.store.specs.HeldStore.{row_of, held_of}
+use Rattle.store.specs.HeldStore.{row_of, empty_row, held_of}
 use Rattle.calculus.specs.Calculus.{Store, contents, Write, written}
 use Rattle.machine.specs.MachineNumbers.{StoreHeld}
 
@@ -30,7 +31,7 @@ module _ {A : Type 0} where
   pub table_set : (n : ℕ) (f g : ℕ → A) (i : ℕ) (a : A) → ((k : ℕ) → (k ≡ i → ⊥) → f k ≡ g k) → g i ≡ a → set (table n f) i a ≡ table n g
   table_set n f g i a h q = entries_set 0 n f g i a (λ k e. h k (λ d. e (omega arith))) (ap g (omega arith) ∙ q)
 
-module _ (w : Tables) (s : Store) (x : Write) (rows : List (List ℕ)) (h : StoreHeld w s rows) (i k p o : ℕ)
+module _ (w : Tables) (s : Store) (x : Write) (rows : List HeldSlot) (h : StoreHeld w s rows) (i k p o : ℕ)
     (formed : well_formed most_slots x.value ≡ true) (slot : x.slot ≡ i) (kind : x.value.kind ≡ k) (payload : x.value.payload ≡ p) (owner : owner_of w i ≡ o) where
   after : Store
   after = set s i (assigned x.value (get_or s i empty_slot))
@@ -52,10 +53,10 @@ module _ (w : Tables) (s : Store) (x : Write) (rows : List (List ℕ)) (h : Stor
           (ap (λ (n : ℕ). get_or after n empty_slot) e ∙ get_or-set_same s i _ empty_slot (omega (arith, h.size))) formed
       go (no e) = formed_as (get_or s j empty_slot) (get_or-set_other s i j _ empty_slot e) (h.formed j)
 
-  pub put_inside : i < most_slots → StoreHeld w (written x s) (set rows i (k ∷ p ∷ o ∷ (get_or (get_or rows i []) 3 0 + 1) ∷ []))
+  pub put_inside : i < most_slots → StoreHeld w (written x s) (set rows i (record { kind = k; payload = p; owner = o; writes = (get_or rows i empty_row).writes + 1 }))
   unfolding held_of row_of assigned after
   put_inside l =
-      rw (written_at, h.same, table_at most_slots (λ j. row_of (get_or s j empty_slot) (owner_of w j)) [] i l)
+      rw (written_at, h.same, table_at most_slots (λ j. row_of (get_or s j empty_slot) (owner_of w j)) empty_row i l)
       (record {
         size = length-set s i _ ∙ h.size;
         same =

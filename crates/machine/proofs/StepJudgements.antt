@@ -19,7 +19,7 @@ use Rattle.syntax.specs.Syntax.{Expr}
 use Rattle.calculus.specs.Rules.{RuleSet, access_control, capability, explicit_provenance, full_provenance, labels_judged, all_above, labels_suffice}
 use Rattle.calculus.proofs.RulesLabels.{by_owner, none_judged}
 use Rattle.calculus.specs.Calculus.{Setting, Store, Labelled, authorised, reliable, eval, judge, permit, assignment}
-use Rattle.machine.specs.Answers.{Got, Judging, judging_by, judging, Making}
+use Rattle.machine.specs.Answers.{Got, Judging, judging_by, Making}
 use Rattle.machine.specs.declared.rules.Terms.{Terms}
 use Rattle.lattice.specs.HeldLabels.{LabelHeld}
 use Rattle.machine.specs.MachineNumbers.{judges_labels, judges_branch, floor_held, Serves, ValueHeld, EvaluatedAs, JudgedAs, MadeAs}
@@ -145,14 +145,14 @@ module _ (w : Setting) (s : Store) (g : Expr) where
     judge_kind ne = let d = gave a in rw (d.same, d.held.kind, ne_eqb k truth ne) JudgedAs.refuses
 
     -- it passes or fails by its payload
-    by_payload : (b : Bool) → k ≡ truth → eqb p 1 ≡ b → JudgedAs w.tables.order (judging_by true b (record { refusal = 0; passes = b; label = l })) (judge w s g)
+    by_payload : (b : Bool) → k ≡ truth → eqb p 1 ≡ b → JudgedAs w.tables.order (judging_by b l) (judge w s g)
     unfolding judging_by
     by_payload true q y =
         let d = gave a in rw (judged k p l d.answer d.same d.held q) (JudgedAs.passes y d.held.label)
     by_payload false q y =
         let d = gave a in rw (judged k p l d.answer d.same d.held q) (JudgedAs.fails y d.held.label)
 
-    pub judge_truth : k ≡ truth → JudgedAs w.tables.order (judging (record { refusal = 0; passes = eqb p 1; label = l })) (judge w s g)
+    pub judge_truth : k ≡ truth → JudgedAs w.tables.order (judging_by (eqb p 1) l) (judge w s g)
     judge_truth q = by_payload (eqb p 1) q refl
 
 -- a target: its expression is refused, it is no write view, it is one

@@ -9,6 +9,7 @@ use Rattle.lattice.specs.Tests.{◌and◌, ◌implies◌}
 use Rattle.lattice.specs.Order.{most_principals, bit}
 use Rattle.values.specs.declared.Value.{Value}
 use Rattle.values.specs.Value.{is_write_view, viewed, empty_slot}
+use Rattle.store.specs.declared.HeldSlot.{HeldSlot}
 use Rattle.store.specs.Sheet.{owner_of}
 use Rattle.calculus.specs.Rules.{judges_views}
 use Rattle.calculus.specs.Calculus.{Setting, in_region, may_hold}
@@ -25,7 +26,7 @@ any_implies true b = refl
 any_implies false b = refl
 
 -- the owner that the code reads in a slot's row is a principal
-pub owner_in : {g : Grounds} (i : ℕ) (row : List ℕ) → CanJudge g → RowRead g.store i row → get_or row 2 0 < most_principals
+pub owner_in : {g : Grounds} (i : ℕ) (row : HeldSlot) → CanJudge g → RowRead g.store i row → row.owner < most_principals
 owner_in i row j h =
     let w = j.setting.tables in
     let b = j.behind in

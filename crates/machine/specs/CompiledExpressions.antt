@@ -6,7 +6,7 @@ use Rattle.values.specs.Value.{is_write_view}
 use Rattle.syntax.specs.declared.Operand.{Operand}
 use Rattle.syntax.specs.Syntax.{Op, Expr, literal}
 use Rattle.syntax.specs.Code.{most_nested}
-use Rattle.syntax.specs.Rows.{more_come, operand, byte_of, head_of, most_operands}
+use Rattle.syntax.specs.Rows.{more_come, operand, no_operand, byte_of, most_operands}
 use Rattle.calculus.specs.Calculus.{Setting, Store, Labelled, takes, gives, fetch, operate, eval}
 use Rattle.machine.specs.Answers.{Got}
 use Rattle.machine.specs.CompiledRuns.{Operands, Formed}
@@ -14,8 +14,7 @@ use Rattle.machine.specs.CompiledRuns.{Operands, Formed}
 -- operand o
 pub record OperandAt (t : Operands) (o : ℕ) (x : Operand) : Type 0 where
   pub inside : o < most_operands
-  pub head : get_or t.heads o [] ≡ head_of x
-  pub payload : get_or t.payloads o 0 ≡ x.payload
+  pub same : get_or t o no_operand ≡ x
 
 -- it is a literal, with this number of reads (or more operands come, and `more_come` is added to it)
 pub record LiteralAt (t : Operands) (o : ℕ) (v : Value) (reads : ℕ) : Type 0 where

@@ -8,38 +8,35 @@ use Rattle.store.specs.Sheet.{most_slots}
 use Rattle.syntax.specs.declared.Operand.{Operand}
 use Rattle.syntax.specs.Syntax.{Expr, Cmd, LiteralsOf, Exprs}
 use Rattle.syntax.specs.Code.{most_nested, most_deep}
-use Rattle.syntax.specs.Rows.{Compiled, assign_row, guard_row, jump_row, end_row, guard_kind, operands_of, heads_of, payloads_of, cmd_operands, rows_of, size, Nests, Shallow, most_rows, most_operands}
+use Rattle.syntax.specs.declared.Compiled.{Compiled}
+use Rattle.syntax.specs.declared.Row.{Row}
+use Rattle.syntax.specs.Rows.{kind_of, offset_of, assign_row, guard_row, jump_row, end_row, no_operand, guard_kind, operands_of, cmd_operands, rows_of, size, Nests, Shallow, most_rows, most_operands}
 use Rattle.syntax.specs.Sheet.{Block}
 use Rattle.calculus.specs.Calculus.{Setting, State, Judged, Write, judge, step, attempt, counted, performed}
 use Rattle.pausing.specs.Paths.{Open, Pause, pause_at}
 use Rattle.pausing.specs.RowPaths.{path_to}
 
-abbrev pub row_at : Compiled → ℕ → List ℕ
-row_at t r = get_or t.rows r []
+abbrev pub row_at : Compiled → ℕ → Row
+row_at t r = get_or t.rows r end_row
 
 abbrev pub kind_at : Compiled → ℕ → ℕ
-kind_at t r = get_or (row_at t r) 0 0
+kind_at t r = kind_of (row_at t r)
 
 -- the offset of a row's command
 abbrev pub offset_at : Compiled → ℕ → ℕ
-offset_at t r = get_or (row_at t r) 2 0
+offset_at t r = offset_of (row_at t r)
 
 -- A list stands in a table, from the i-th entry on
 pub record StandsAt {A : Type 0} (none : A) (table : List A) (i : ℕ) (xs : List A) : Type 0 where
   pub at : (j : ℕ) → j < length xs → get_or table (i + j) none ≡ get_or xs j none
 
--- the operands' tables
-pub record Operands : Type 0 where
-  pub heads : List (List ℕ)
-  pub payloads : List ℕ
-
-abbrev pub operand_tables : Compiled → Operands
-operand_tables t = record { heads = t.operands; payloads = t.payloads }
+-- the table of operands
+abbrev pub Operands : Type 0
+Operands = List Operand
 
 -- operands stand there, from operand o on
 pub record OperandsAt (t : Operands) (o : ℕ) (xs : List Operand) : Type 0 where
-  pub heads : StandsAt [] t.heads o (heads_of xs)
-  pub payloads : StandsAt 0 t.payloads o (payloads_of xs)
+  pub stands : StandsAt no_operand t o xs
   pub fits : o + length xs ≤ most_operands
 
 -- a view names a slot that is held
@@ -63,15 +60,15 @@ pub record AssignAt (t : Compiled) (r depth at : ℕ) (x v : Expr) : Type 0 wher
   pub holds : row_at t r ≡ assign_row depth at target value
   pub early : r < most_rows
   pub level : depth ≤ most_deep
-  pub target_is : ExprAt (operand_tables t) target x
-  pub value_is : ExprAt (operand_tables t) value v
+  pub target_is : ExprAt t.operands target x
+  pub value_is : ExprAt t.operands value v
 
 pub record GuardAt (t : Compiled) (r depth at : ℕ) (g : Expr) (other : ℕ) : Type 0 where
   pub operand : ℕ
   pub holds : row_at t r ≡ guard_row depth at operand other
   pub early : r < most_rows
   pub level : depth < most_deep
-  pub operand_is : ExprAt (operand_tables t) operand g
+  pub operand_is : ExprAt t.operands operand g
 
 -- a jump leads on, or back to a guard, which takes a step
 pub record JumpAt (t : Compiled) (r target : ℕ) : Type 0 where
@@ -124,8 +121,8 @@ pub record Sound (c : Cmd) : Type 0 where
 
 -- a block stands in the tables, from row r and operand o on, closed by its end row
 pub record BlockAt (t : Compiled) (r o : ℕ) (c : Cmd) : Type 0 where
-  pub rows : StandsAt [] t.rows r (rows_of c 0 r o ++ (end_row ∷ []))
-  pub operands : OperandsAt (operand_tables t) o (cmd_operands c)
+  pub rows : StandsAt end_row t.rows r (rows_of c 0 r o ++ (end_row ∷ []))
+  pub operands : OperandsAt t.operands o (cmd_operands c)
   pub fits : r + size c < most_rows
   pub sound : Sound c
 

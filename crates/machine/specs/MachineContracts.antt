@@ -6,12 +6,14 @@ use Rattle.values.specs.Result.{Result}
 use Rattle.values.specs.declared.Value.{Value}
 use Rattle.values.specs.Value.{well_formed, empty_slot}
 use Rattle.store.specs.Sheet.{Tables, owner_of, most_slots}
-use Rattle.store.specs.HeldStore.{row_of}
+use Rattle.store.specs.declared.HeldSlot.{HeldSlot}
+use Rattle.store.specs.HeldStore.{row_of, empty_row}
 use Rattle.syntax.specs.Syntax.{Op, Expr, literal}
-use Rattle.syntax.specs.Rows.{more_come, byte_of}
+use Rattle.syntax.specs.Rows.{more_come, no_operand, byte_of}
 use Rattle.calculus.specs.Rules.{RuleSet, labels_judged, all_above}
 use Rattle.calculus.specs.Calculus.{Setting, Store, Labelled, Write, may_hold, eval, judge, permit, assignment, reliable, written}
 use Rattle.machine.specs.declared.rules.Terms.{Terms}
+use Rattle.machine.specs.declared.slots.Grounds.{Grounds as HeldGrounds}
 use Rattle.machine.specs.Answers.{Got, Judging, Making}
 use Rattle.lattice.specs.HeldLabels.{LabelHeld}
 use Rattle.machine.specs.MachineNumbers.{judges_labels, judges_branch, Serves, StoreHeld, ValueHeld, EvaluatedAs, JudgedAs, MadeAs}
@@ -22,10 +24,14 @@ use Rattle.machine.specs.CompiledExpressions.{LiteralAt, read_times, got_operate
 pub record Grounds : Type 0 where
   pub terms : Terms
   pub masks : List ℕ
-  pub store : List (List ℕ)
+  pub store : List HeldSlot
 
-abbrev pub grounds : Terms → List ℕ → List (List ℕ) → Grounds
+abbrev pub grounds : Terms → List ℕ → List HeldSlot → Grounds
 grounds terms masks store = record { terms = terms; masks = masks; store = store }
+
+-- as the code holds them
+abbrev pub grounds_of : HeldGrounds → Grounds
+grounds_of g = grounds g.terms.now g.masks.now g.held.now
 
 -- a setting and a store stand behind them
 pub record Behind (g : Grounds) (w : Setting) (s : Store) : Type 0 where
@@ -38,10 +44,6 @@ pub record CanJudge (g : Grounds) : Type 0 where
   pub store : Store
   pub behind : Behind g setting store
 
--- both tables of the operands
-abbrev pub both_tables : List (List ℕ) → List ℕ → Operands
-both_tables heads payloads = record { heads = heads; payloads = payloads }
-
 -- an expression stands from operand o on
 pub record SomeExpr (t : Operands) (o : ℕ) : Type 0 where
   pub expr : Expr
@@ -50,10 +52,10 @@ pub record SomeExpr (t : Operands) (o : ℕ) : Type 0 where
 -- it has operations: more operands come after the first
 pub record SomeOperation (t : Operands) (o : ℕ) : Type 0 where
   pub some : SomeExpr t o
-  pub more : more_come ≤ get_or (get_or t.heads o []) 1 0
+  pub more : more_come ≤ (get_or t o no_operand).reads
 
 -- a slot's row is read
-abbrev pub RowRead : List (List ℕ) → ℕ → List ℕ → Type 0
+abbrev pub RowRead : List HeldSlot → ℕ → HeldSlot → Type 0
 RowRead held slot r = (w : Tables) (s : Store) → StoreHeld w s held → r ≡ row_of (get_or s slot empty_slot) (owner_of w slot)
 
 -- rule 1's test of a value
@@ -130,11 +132,11 @@ JudgesAssignment g t target value branch r =
     → MadeAs w.tables r (assignment w b s x y)
 
 -- a slot's count can be raised
-abbrev pub FewWrites : List (List ℕ) → ℕ → Type 0
-FewWrites held slot = get_or (get_or held slot []) 3 0 + 1 < 2 ^ 64
+abbrev pub FewWrites : List HeldSlot → ℕ → Type 0
+FewWrites held slot = (get_or held slot empty_row).writes + 1 < 2 ^ 64
 
 -- a write is put into its slot's row
-abbrev pub PutsWrite : List (List ℕ) → List (List ℕ) → ℕ → ℕ → ℕ → ℕ → Type 0
+abbrev pub PutsWrite : List HeldSlot → List HeldSlot → ℕ → ℕ → ℕ → ℕ → Type 0
 PutsWrite held held' slot kind payload owner =
     (w : Tables) (s : Store) (x : Write) → StoreHeld w s held → well_formed most_slots x.value ≡ true → x.slot ≡ slot → x.value.kind ≡ kind
     → x.value.payload ≡ payload → owner_of w slot ≡ owner → StoreHeld w (written x s) held'

@@ -6,6 +6,7 @@ use Rattle.lattice.specs.HeldLabels.{LabelHeld}
 use Rattle.values.specs.Result.{Result, ok, refuse}
 use Rattle.values.specs.Value.{well_formed, empty_slot}
 use Rattle.store.specs.Sheet.{Tables, owner_of, most_slots}
+use Rattle.store.specs.declared.HeldSlot.{HeldSlot}
 use Rattle.store.specs.HeldStore.{Ordered, held_of}
 use Rattle.calculus.specs.Rules.{RuleSet, access_control, capability, explicit_provenance, full_provenance, judges_views, judges_region}
 use Rattle.calculus.specs.Calculus.{Setting, Store, State, stop_at, contents, Labelled, Judged, Write}
@@ -44,7 +45,7 @@ pub record Serves (w : Setting) (t : Terms) (held : List ℕ) : Type 0 where
   pub branches : t.branches ≡ judges_branch w.rules
 
 -- a store is held as rows; its views name slots that are held
-pub record StoreHeld (w : Tables) (s : Store) (rows : List (List ℕ)) : Type 0 where
+pub record StoreHeld (w : Tables) (s : Store) (rows : List HeldSlot) : Type 0 where
   pub size : length s ≡ most_slots
   pub same : rows ≡ held_of w s
   pub formed : (i : ℕ) → well_formed most_slots (contents s i) ≡ true
@@ -76,7 +77,7 @@ abbrev pub FewCounts : State → Type 0
 FewCounts s = (i : ℕ) → (get_or s.store i empty_slot).writes ≤ s.steps
 
 -- the state behind the held rows, the count and the free entries, of a journal with `room` entries
-pub record StateHeld (w : Setting) (room : ℕ) (rows : List (List ℕ)) (n free : ℕ) (s : State) : Type 0 where
+pub record StateHeld (w : Setting) (room : ℕ) (rows : List HeldSlot) (n free : ℕ) (s : State) : Type 0 where
   pub store : StoreHeld w.tables s.store rows
   pub steps : s.steps ≡ n
   pub counts : FewCounts s
@@ -89,7 +90,7 @@ pub record StopsAs (number at steps : ℕ) (whole : Result Pause State) : Type 0
   pub counted : state.steps ≡ steps
   pub means : whole ≡ refuse (pause_at path (stop_at at state number))
 
-pub record DoneAs (w : Setting) (room : ℕ) (rows : List (List ℕ)) (steps free : ℕ) (whole : Result Pause State) : Type 0 where
+pub record DoneAs (w : Setting) (room : ℕ) (rows : List HeldSlot) (steps free : ℕ) (whole : Result Pause State) : Type 0 where
   pub state : State
   pub held : StateHeld w room rows steps free state
   pub means : whole ≡ ok state

@@ -1,16 +1,24 @@
 // Blocks, one after the other, from the compiled tables.
 ghost use Rattle.std.specs.Prelude.{◌≡◌};
-ghost use Rattle.syntax.specs.Rows.{tables_of};
 ghost use Rattle.syntax.specs.Sheet.{header_at};
-ghost use Rattle.machine.specs.BlockRuns.{played, opening_place, Served, CanTell, CanPlayOn, PlaysOn};
+ghost use Rattle.machine.specs.BlockRuns.{played_of, opening_place, Served, CanTell, CanPlayOn, PlaysOn};
 
-use super::rows::Ran;
+use super::rows::Given;
 use super::rules::{Judges, Terms};
 use super::{rows, rules};
 use lattice::Table;
-use programme::{Labels, Operands, Payloads, Rows};
 use store::Held;
-use syntax::{Row, Sizes};
+use syntax::{Compiled, Labels, Row, Sizes};
+use values::Refused;
+
+// What blocks are played by: the compiled tables, the order table, what the rule set judges, and the budget.
+#[derive(Clone, Copy)]
+pub struct Played<'a> {
+    pub tables: &'a Compiled,
+    pub order: &'a Table,
+    pub judges: Judges,
+    pub budget: u32,
+}
 
 // Where a run of blocks stands: the block and the row that are next, the steps done, and the entries that are free.
 #[derive(Clone, Copy)]
@@ -21,20 +29,18 @@ pub struct Place {
     pub free: usize,
 }
 
-// How a run of blocks ended: finished; or the step at a row of a block was refused, its command's offset being `offset`.
+// A run of blocks that finished: the steps done, and the entries that are free.
 #[derive(Clone, Copy)]
-pub enum Ended {
-    Finished {
-        steps: u32,
-        free: usize,
-    },
-    Halted {
-        number: u32,
-        block: usize,
-        row: usize,
-        offset: usize,
-        steps: u32,
-    },
+pub struct Finished {
+    pub steps: u32,
+    pub free: usize,
+}
+
+// One that was halted: the step at a row was refused.
+#[derive(Clone, Copy)]
+pub struct Halted {
+    pub row: usize,
+    pub refused: Refused,
 }
 
 // Where a run opens: at the first block's first row, with no step done and every entry free.
@@ -50,9 +56,9 @@ pub fn opening(entries: usize) -> Place
 }
 
 // What a block of the programme runs under.
-pub fn block_terms(sheet: &[u8], table: Table, judges: Judges, block: usize) -> Terms
+pub fn block_terms(sheet: &[u8], table: &Table, judges: Judges, block: usize) -> Terms
     requires { CanTell sheet.now block }
-    ensures { Served table judges (header_at sheet.now block) result }
+    ensures { Served table.now judges (header_at sheet.now block) result }
 {
     let k = store::number_at(sheet, 0, 1) as usize;
     let at = Sizes::WIDTH + block;
@@ -65,57 +71,52 @@ pub fn block_terms(sheet: &[u8], table: Table, judges: Judges, block: usize) -> 
 pub fn play_blocks(
     sheet: &[u8],
     k: usize,
-    rows: &Rows,
-    operands: &Operands,
-    payloads: &Payloads,
+    by: Played,
     labels: &mut Labels,
     held: &mut Held,
-    table: Table,
-    judges: Judges,
-    budget: u32,
     from: Place,
-) -> Ended
-    requires { CanPlayOn (played (tables_of rows.now operands.now payloads.now) table judges budget) sheet.now k from labels.old held.old }
-    ensures { PlaysOn (played (tables_of rows.now operands.now payloads.now) table judges budget)
+) -> Result<Finished, Halted>
+    requires { CanPlayOn (played_of by) sheet.now k from labels.old held.old }
+    ensures { PlaysOn (played_of by.entry)
         sheet.now k from labels.old held.old labels.new held.new result }
 {
-    let masks = table.masks;
-    let mut block = from.block;
-    let mut row = from.row;
-    let mut steps = from.steps;
-    let mut free = from.free;
-    while block < k {
-        let terms = block_terms(sheet, table, judges, block);
-        match rows::go(
-            rows, operands, payloads, labels, held, &masks, terms, budget, row, steps, free,
-        ) {
-            Ran::Done {
-                row: last,
-                steps: done,
-                free: left,
-            } => {
-                let top = terms.top;
-                *labels = [top; Row::DEPTHS];
-                block += 1;
-                row = last + 1;
-                steps = done;
-                free = left;
-            }
-            Ran::Stopped {
-                number,
-                row: here,
-                at,
-                steps: done,
-            } => {
-                return Ended::Halted {
-                    number,
-                    block,
-                    row: here,
-                    offset: at,
-                    steps: done,
+    let mut at = rows::Place {
+        row: from.row,
+        steps: from.steps,
+        free: from.free,
+    };
+    for block in from.block..k {
+        let terms = block_terms(sheet, by.order, by.judges, block);
+        let given = Given {
+            tables: by.tables,
+            masks: &by.order.masks,
+            terms: &terms,
+            budget: by.budget,
+        };
+        match rows::go(given, labels, held, at) {
+            Ok(end) => {
+                *labels = [terms.top; Row::DEPTHS];
+                at = rows::Place {
+                    row: end.row + 1,
+                    steps: end.steps,
+                    free: end.free,
                 };
+            }
+            Err(stop) => {
+                return Err(Halted {
+                    row: stop.row,
+                    refused: Refused {
+                        refusal: stop.refusal,
+                        block,
+                        offset: stop.offset,
+                        steps: stop.steps,
+                    },
+                });
             }
         }
     }
-    Ended::Finished { steps, free }
+    Ok(Finished {
+        steps: at.steps,
+        free: at.free,
+    })
 }

@@ -1,184 +1,130 @@
 // Expressions, from their operands.
-ghost use Rattle.std.specs.Prelude.{◌≡◌, ◌<◌};
+ghost use Rattle.std.specs.Prelude.{◌≡◌, ◌<◌, Ok, bit_and};
 ghost use Rattle.machine.specs.Answers.{Got, got};
 ghost use Rattle.calculus.specs.Calculus.{integer_of, truth_of};
 ghost use Rattle.machine.specs.CompiledExpressions.{got_value};
-ghost use Rattle.machine.specs.MachineContracts.{grounds, both_tables, CanJudge, SomeExpr, SomeLiteral, SomeOperation, ReadsThrough, Operates, CanFold, Folds, Evaluates, Aims};
+ghost use Rattle.machine.specs.MachineContracts.{grounds_of, CanJudge, SomeExpr, SomeLiteral, SomeOperation, ReadsThrough, Operates, CanFold, Folds, Evaluates, Aims};
 
-use super::rules::Terms;
 use super::slots;
-use lattice::Masks;
-use programme::{Operands, Payloads};
-use store::{Answer, Held, Opened, Value};
-use syntax::Operand;
+use super::slots::Grounds;
+use store::Value;
+use syntax::{Compiled, Operand};
+use values::Refusal;
 
-// An expression's value with its label; or the number of its refusal, where that is not 0. (Kind and payload stand apart: two numbers
-// that lie side by side would be written one by one and read as one, which stalls.)
+// An expression's value, with its label as a mask.
 #[derive(Clone, Copy)]
-pub struct Evaluated {
+pub struct Labelled {
     pub kind: u64,
-    pub refusal: u32,
-    pub label: u32,
     pub payload: u64,
-}
-
-pub(crate) fn refused_value(number: u32) -> Evaluated
-    requires { 0 < number }
-    ensures { got result ≡ Got.Refused number }
-{
-    Evaluated {
-        kind: 0,
-        refusal: number,
-        label: 0,
-        payload: 0,
-    }
+    pub label: u32,
 }
 
 // The literal at operand o, from it outwards through its reads. What turns up is judged (15) before it is read through (13).
-pub(crate) fn read_through(
-    operands: &Operands,
-    payloads: &Payloads,
-    held: &Held,
-    masks: &Masks,
-    terms: Terms,
-    o: usize,
-) -> Evaluated
-    requires { CanJudge (grounds terms masks.now held.now) × SomeLiteral (both_tables operands.now payloads.now) o }
-    ensures { ReadsThrough (grounds terms masks.now held.now) (both_tables operands.now payloads.now) o (got result) }
+pub(crate) fn read_through(tables: &Compiled, by: Grounds, o: usize) -> Result<Labelled, Refusal>
+    requires { CanJudge (grounds_of by) × SomeLiteral tables.now.operands o }
+    ensures { ReadsThrough (grounds_of by.entry) tables.now.operands o (got result) }
 {
-    let head = operands[o];
-    let mut kind = store::wide(head[Operand::KIND]);
-    let mut payload = payloads[o];
-    let mut label = terms.top;
-    let mut left = head[Operand::READS] % Operand::MORE;
+    let operand = tables.operands[o];
+    let mut kind = u64::from(operand.kind);
+    let mut payload = operand.payload;
+    let mut label = by.terms.top;
+    let mut left = operand.reads % Operand::MORE;
     loop {
-        if !slots::admitted(held, masks, terms, kind, payload) {
-            return refused_value(Answer::WRITE_VIEW_NOT_ALLOWED);
+        if !slots::admitted(by, kind, payload) {
+            return Err(Refusal::WriteViewNotAllowed);
         }
         if left == 0 {
-            return Evaluated {
+            return Ok(Labelled {
                 kind,
-                refusal: 0,
-                label,
                 payload,
-            };
+                label,
+            });
         }
-        if kind != Value::READ_VIEW as u64 {
-            return refused_value(Answer::WRONG_KIND);
+        if kind != u64::from(Value::READ_VIEW) {
+            return Err(Refusal::WrongKind);
         }
-        let row = slots::row_of(held, store::viewed(payload));
-        let owner = row[Opened::ROW_OWNER] as usize;
-        let mask = masks[owner];
-        kind = row[Opened::ROW_KIND];
-        payload = row[Opened::ROW_PAYLOAD];
-        label = label & mask;
+        let row = slots::row_of(by.held, store::viewed(payload));
+        kind = row.kind;
+        payload = row.payload;
+        label = label & by.masks[row.owner as usize];
         left -= 1;
     }
 }
 
-fn integer(payload: u64, label: u32) -> Evaluated
-    ensures { got result ≡ got_value (integer_of payload) label }
+fn integer(payload: u64, label: u32) -> Labelled
+    ensures { got (Ok result) ≡ got_value (integer_of payload) label }
 {
-    Evaluated {
-        kind: Value::INTEGER as u64,
-        refusal: 0,
-        label,
+    Labelled {
+        kind: u64::from(Value::INTEGER),
         payload,
+        label,
     }
 }
 
-fn truth(holds: bool, label: u32) -> Evaluated
-    ensures { got result ≡ got_value (truth_of holds) label }
+#[tactic(auto, unfolding(calculus::specs::Calculus::truth_of))]
+fn truth(holds: bool, label: u32) -> Labelled
+    ensures { got (Ok result) ≡ got_value (truth_of holds) label }
 {
-    let payload = if holds { Value::TRUE } else { 0 };
-    Evaluated {
-        kind: Value::TRUTH as u64,
-        refusal: 0,
+    Labelled {
+        kind: u64::from(Value::TRUTH),
+        payload: if holds { Value::TRUE } else { 0 },
         label,
-        payload,
     }
 }
 
 // An operation on two values, whose kinds are judged now (13).
-fn operate(operation: u8, left: u64, p: u64, right: u64, q: u64, label: u32) -> Evaluated
-    ensures { Operates operation left p right q label (got result) }
+fn operate(operation: u8, left: Labelled, right: Labelled) -> Result<Labelled, Refusal>
+    ensures { Operates operation left.kind left.payload right.kind right.payload (bit_and left.label right.label) (got result) }
 {
+    let label = left.label & right.label;
     if operation == Operand::EQUAL {
-        if left == right {
-            return truth(p == q, label);
-        }
-        return truth(false, label);
+        return Ok(truth(
+            left.kind == right.kind && left.payload == right.payload,
+            label,
+        ));
     }
-    if left != Value::INTEGER as u64 {
-        return refused_value(Answer::WRONG_KIND);
+    if left.kind != u64::from(Value::INTEGER) {
+        return Err(Refusal::WrongKind);
     }
-    if right != Value::INTEGER as u64 {
-        return refused_value(Answer::WRONG_KIND);
+    if right.kind != u64::from(Value::INTEGER) {
+        return Err(Refusal::WrongKind);
     }
     match operation {
-        Operand::SUM => integer(store::sum(p, q), label),
-        Operand::DIFFERENCE => integer(store::difference(p, q), label),
-        _ => truth(store::less_than(p, q), label),
+        Operand::SUM => Ok(integer(store::sum(left.payload, right.payload), label)),
+        Operand::DIFFERENCE => Ok(integer(store::difference(left.payload, right.payload), label)),
+        _ => Ok(truth(store::less_than(left.payload, right.payload), label)),
     }
 }
 
 // The rest of an expression, from operand `from` on, once a first value is known.
-fn fold(
-    operands: &Operands,
-    payloads: &Payloads,
-    held: &Held,
-    masks: &Masks,
-    terms: Terms,
-    from: usize,
-    first: Evaluated,
-) -> Evaluated
-    requires { CanFold (grounds terms masks.now held.now) (both_tables operands.now payloads.now) from first.kind first.payload first.label }
-    ensures { Folds (grounds terms masks.now held.now) (both_tables operands.now payloads.now) from first.kind first.payload first.label (got result) }
+fn fold(tables: &Compiled, by: Grounds, from: usize, first: Labelled) -> Result<Labelled, Refusal>
+    requires { CanFold (grounds_of by) tables.now.operands from first.kind first.payload first.label }
+    ensures { Folds (grounds_of by.entry) tables.now.operands from first.kind first.payload first.label (got result) }
 {
-    let mut kinds = [0u64; Operand::DEEPEST];
-    let mut numbers = [0u64; Operand::DEEPEST];
-    let mut labels = [0u32; Operand::DEEPEST];
+    let mut stack = [first; Operand::DEEPEST];
     let mut waiting = 0;
     let mut last = first;
     let mut o = from;
     loop {
-        let head = operands[o];
-        let what = head[Operand::KIND];
-        if what < Value::KINDS {
-            let x = read_through(operands, payloads, held, masks, terms, o);
-            let number = x.refusal;
-            if number != 0 {
-                return refused_value(number);
-            }
-            kinds[waiting] = last.kind;
-            numbers[waiting] = last.payload;
-            labels[waiting] = last.label;
+        let operand = tables.operands[o];
+        if operand.kind < Value::KINDS {
+            let x = read_through(tables, by, o)?;
+            stack[waiting] = last;
             waiting += 1;
             last = x;
         } else {
             waiting -= 1;
-            let x = operate(
-                what,
-                kinds[waiting],
-                numbers[waiting],
-                last.kind,
-                last.payload,
-                labels[waiting] & last.label,
-            );
-            let number = x.refusal;
-            if number != 0 {
-                return refused_value(number);
-            }
-            match head[Operand::READS] {
+            let x = operate(operand.kind, stack[waiting], last)?;
+            match operand.reads {
                 0 => {
-                    return x;
+                    return Ok(x);
                 }
                 Operand::MORE => {
                     last = x;
                 }
                 // A read of an operation's result: no operation gives a view.
                 _ => {
-                    return refused_value(Answer::WRONG_KIND);
+                    return Err(Refusal::WrongKind);
                 }
             }
         }
@@ -187,113 +133,51 @@ fn fold(
 }
 
 // An expression with operations, from its first operand on.
-pub(crate) fn eval_operations(
-    operands: &Operands,
-    payloads: &Payloads,
-    held: &Held,
-    masks: &Masks,
-    terms: Terms,
-    o: usize,
-) -> Evaluated
-    requires { CanJudge (grounds terms masks.now held.now) × SomeOperation (both_tables operands.now payloads.now) o }
-    ensures { Evaluates (grounds terms masks.now held.now) (both_tables operands.now payloads.now) o (got result) }
+pub(crate) fn eval_operations(tables: &Compiled, by: Grounds, o: usize) -> Result<Labelled, Refusal>
+    requires { CanJudge (grounds_of by) × SomeOperation tables.now.operands o }
+    ensures { Evaluates (grounds_of by.entry) tables.now.operands o (got result) }
 {
-    let x = read_through(operands, payloads, held, masks, terms, o);
-    let number = x.refusal;
-    if number != 0 {
-        return refused_value(number);
-    }
-    let third = operands[o + 2];
+    let x = read_through(tables, by, o)?;
+    let third = tables.operands[o + 2];
     // Neither reads nor MORE: the third operand is the expression's last, so an operation on the two before it.
-    if third[Operand::READS] == 0 {
-        let y = read_through(operands, payloads, held, masks, terms, o + 1);
-        let barred = y.refusal;
-        if barred != 0 {
-            return refused_value(barred);
-        }
-        return operate(
-            third[Operand::KIND],
-            x.kind,
-            x.payload,
-            y.kind,
-            y.payload,
-            x.label & y.label,
-        );
+    if third.reads == 0 {
+        let y = read_through(tables, by, o + 1)?;
+        return operate(third.kind, x, y);
     }
-    fold(operands, payloads, held, masks, terms, o + 1, x)
+    fold(tables, by, o + 1, x)
 }
 
-// A value: an expression, from its first operand on. (This one and the two below are each called in one place: so they are put in line, and
-// `eval_operations` is not.)
-pub(crate) fn eval(
-    operands: &Operands,
-    payloads: &Payloads,
-    held: &Held,
-    masks: &Masks,
-    terms: Terms,
+// A value: an expression, from its first operand on. (An instance for each user, `steps::Use`, is put in line, and `eval_operations` is not.)
+pub(crate) fn eval<const FOR: u8>(
+    tables: &Compiled,
+    by: Grounds,
     o: usize,
-) -> Evaluated
-    requires { CanJudge (grounds terms masks.now held.now) × SomeExpr (both_tables operands.now payloads.now) o }
-    ensures { Evaluates (grounds terms masks.now held.now) (both_tables operands.now payloads.now) o (got result) }
+) -> Result<Labelled, Refusal>
+    requires { CanJudge (grounds_of by) × SomeExpr tables.now.operands o }
+    ensures { Evaluates (grounds_of by.entry) tables.now.operands o (got result) }
 {
-    let head = operands[o];
-    if head[Operand::READS] < Operand::MORE {
-        return read_through(operands, payloads, held, masks, terms, o);
+    if tables.operands[o].reads < Operand::MORE {
+        return read_through(tables, by, o);
     }
-    // (A copy, since it is passed by pointer: so `terms` itself can stay in registers on the short way.)
-    let own = terms;
-    eval_operations(operands, payloads, held, masks, own, o)
-}
-
-// A guard's expression, from its first operand on.
-pub(crate) fn eval_guard(
-    operands: &Operands,
-    payloads: &Payloads,
-    held: &Held,
-    masks: &Masks,
-    terms: Terms,
-    o: usize,
-) -> Evaluated
-    requires { CanJudge (grounds terms masks.now held.now) × SomeExpr (both_tables operands.now payloads.now) o }
-    ensures { Evaluates (grounds terms masks.now held.now) (both_tables operands.now payloads.now) o (got result) }
-{
-    let head = operands[o];
-    if head[Operand::READS] < Operand::MORE {
-        return read_through(operands, payloads, held, masks, terms, o);
-    }
-    let own = terms;
-    eval_operations(operands, payloads, held, masks, own, o)
+    eval_operations(tables, by, o)
 }
 
 // An assignment's target: a write view. No operation gives a view.
-pub(crate) fn aim(
-    operands: &Operands,
-    payloads: &Payloads,
-    held: &Held,
-    masks: &Masks,
-    terms: Terms,
+pub(crate) fn aim<const FOR: u8>(
+    tables: &Compiled,
+    by: Grounds,
     o: usize,
-) -> Evaluated
-    requires { CanJudge (grounds terms masks.now held.now) × SomeExpr (both_tables operands.now payloads.now) o }
-    ensures { Aims (grounds terms masks.now held.now) (both_tables operands.now payloads.now) o (got result) }
+) -> Result<Labelled, Refusal>
+    requires { CanJudge (grounds_of by) × SomeExpr tables.now.operands o }
+    ensures { Aims (grounds_of by.entry) tables.now.operands o (got result) }
 {
-    let head = operands[o];
-    if Operand::MORE <= head[Operand::READS] {
-        let own = terms;
-        let y = eval_operations(operands, payloads, held, masks, own, o);
-        let number = y.refusal;
-        if number != 0 {
-            return refused_value(number);
-        }
-        return refused_value(Answer::WRONG_KIND);
+    if Operand::MORE <= tables.operands[o].reads {
+        eval_operations(tables, by, o)?;
+        return Err(Refusal::WrongKind);
     }
-    let x = read_through(operands, payloads, held, masks, terms, o);
-    let barred = x.refusal;
-    if barred != 0 {
-        return refused_value(barred);
-    }
+    let x = read_through(tables, by, o)?;
     if !store::is_write_view(x.kind) {
-        return refused_value(Answer::WRONG_KIND);
+        return Err(Refusal::WrongKind);
     }
-    x
+    Ok(x)
 }

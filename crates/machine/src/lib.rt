@@ -6,6 +6,5 @@ pub mod blocks;
 mod expressions;
 pub mod rows;
 pub mod rules;
-pub mod second;
 pub mod slots;
 pub mod steps;

@@ -1,273 +1,190 @@
 // The machine: over the compiled tables alone, from any row, with a branch label for each depth.
 ghost use Rattle.std.specs.Prelude.{◌≡◌};
-ghost use Rattle.syntax.specs.Rows.{assign_kind, guard_kind, tables_of};
+ghost use Rattle.syntax.specs.Rows.{offset_of};
 ghost use Rattle.machine.specs.Answers.{control};
-ghost use Rattle.machine.specs.Machine.{given, place, CanGo, CanMove, CanTake, CanStep, Moved, Went};
+ghost use Rattle.machine.specs.Machine.{given_of, place_of, CanGo, IsAssign, IsGuard, Moved, Due, Went};
 
 use super::rules::Terms;
+use super::slots::Grounds;
+use super::steps::Use;
 use super::{slots, steps};
 use lattice::Masks;
-use programme::{Labels, Operands, Payloads, Rows};
-use store::{Answer, Held};
-use syntax::Row;
+use store::Held;
+use syntax::{Compiled, Labels, Row};
+use values::Refusal;
 
-// The row that comes next; or the number of the refusal of the step at a row. `free` counts the entries that are free.
+// What a run goes by: the compiled tables, the masks of the principals, what the block runs under, and the budget.
 #[derive(Clone, Copy)]
-pub struct Next {
-    pub refusal: u32,
-    pub steps: u32,
+pub struct Given<'a> {
+    pub tables: &'a Compiled,
+    pub masks: &'a Masks,
+    pub terms: &'a Terms,
+    pub budget: u32,
+}
+
+// Where a run stands in a block: the row that is next, the steps done, and the entries that are free.
+#[derive(Clone, Copy)]
+pub struct Place {
     pub row: usize,
+    pub steps: u32,
     pub free: usize,
 }
 
-// How a run from a row ended: at a block's end row; or the step at a row was refused, its command's offset being `at`.
+// The step at a row was refused, its command's offset being `offset`.
 #[derive(Clone, Copy)]
-pub enum Ran {
-    Done {
-        row: usize,
-        steps: u32,
-        free: usize,
-    },
-    Stopped {
-        number: u32,
-        row: usize,
-        at: usize,
-        steps: u32,
-    },
+pub struct Stop {
+    pub refusal: Refusal,
+    pub row: usize,
+    pub offset: usize,
+    pub steps: u32,
 }
 
-// A number of a row; that it fits is known of an argument's type, not of an array's element.
-pub fn wide16(x: u16) -> usize
-    ensures { result ≡ x }
+// 17 comes before all that a step judges.
+#[tactic(auto, unfolding(crate::specs::Machine::Due))]
+fn due(at: Place, budget: u32) -> Result<(), Refusal>
+    ensures { Due at budget result }
 {
-    x as usize
+    if at.steps == budget {
+        return Err(Refusal::BudgetSpent);
+    }
+    Ok(())
 }
 
 // An assignment: there must be a free entry for it (18); it is judged under its depth's branch label, and written.
 fn take_assign(
-    rows: &Rows,
-    operands: &Operands,
-    payloads: &Payloads,
+    by: Given,
     labels: &Labels,
     held: &mut Held,
-    masks: &Masks,
-    terms: Terms,
-    budget: u32,
-    row: usize,
-    steps: u32,
-    free: usize,
-) -> Next
-    requires { CanStep assign_kind (given terms masks.now (tables_of rows.now operands.now payloads.now) budget) (place row steps free labels.now held.old) }
-    ensures { Moved (given terms masks.now (tables_of rows.now operands.now payloads.now) budget)
-        (place row steps free labels.now held.old) labels.now held.new (control result) }
+    at: Place,
+    depth: u16,
+    target: u16,
+    value: u16,
+) -> Result<Place, Refusal>
+    requires { IsAssign (given_of by) (place_of at labels.now held.old) depth target value }
+    ensures { Moved (given_of by.entry)
+        (place_of at labels.now held.old) labels.now held.new (control at result) }
 {
-    if free == 0 {
-        return Next {
-            refusal: Answer::JOURNAL_FULL,
-            steps,
-            row,
-            free,
-        };
+    due(at, by.budget)?;
+    if at.free == 0 {
+        return Err(Refusal::JournalFull);
     }
-    let r = rows[row];
-    let depth = wide16(r[Row::DEPTH]);
-    let target = wide16(r[Row::FIRST]);
-    let value = wide16(r[Row::SECOND]);
-    let branch = labels[depth];
-    let made = steps::assign(
-        operands, payloads, held, masks, terms, target, value, branch,
-    );
-    let number = made.refusal;
-    if number != 0 {
-        return Next {
-            refusal: number,
-            steps,
-            row,
-            free,
-        };
-    }
-    slots::put(held, made.slot, made.kind, made.payload, made.owner);
-    Next {
-        refusal: 0,
-        steps: steps + 1,
-        row: row + 1,
-        free: free - 1,
-    }
+    let judged = Grounds {
+        held,
+        masks: by.masks,
+        terms: by.terms,
+    };
+    let branch = labels[usize::from(depth)];
+    let write = steps::assign::<{ Use::FIRST_PASS }>(
+        by.tables,
+        judged,
+        usize::from(target),
+        usize::from(value),
+        branch,
+    )?;
+    slots::put(held, write);
+    Ok(Place {
+        row: at.row + 1,
+        steps: at.steps + 1,
+        free: at.free - 1,
+    })
 }
 
-// A guard: whichever way it goes, the depth inside it has the meet of the label outside and its own.
+// A guard: whichever way it goes, the depth inside it has the meet of the label outside and its own. (Its other row is read only where it fails: so the
+// next row is chosen by a branch, which the processor guesses. Chosen by a selection, every load behind it would wait for the guard.)
 fn take_guard(
-    rows: &Rows,
-    operands: &Operands,
-    payloads: &Payloads,
+    by: Given,
     labels: &mut Labels,
     held: &Held,
-    masks: &Masks,
-    terms: Terms,
-    budget: u32,
-    row: usize,
-    steps: u32,
-    free: usize,
-) -> Next
-    requires { CanStep guard_kind (given terms masks.now (tables_of rows.now operands.now payloads.now) budget) (place row steps free labels.old held.now) }
-    ensures { Moved (given terms masks.now (tables_of rows.now operands.now payloads.now) budget)
-        (place row steps free labels.old held.now) labels.new held.now (control result) }
+    at: Place,
+    depth: u16,
+    operand: u16,
+    other: &u16,
+) -> Result<Place, Refusal>
+    requires { IsGuard (given_of by) (place_of at labels.old held.now) depth operand other.now }
+    ensures { Moved (given_of by.entry)
+        (place_of at labels.old held.now) labels.new held.now (control at result) }
 {
-    let r = rows[row];
-    let depth = wide16(r[Row::DEPTH]);
-    let operand = wide16(r[Row::FIRST]);
-    let x = steps::judge(operands, payloads, held, masks, terms, operand);
-    let number = x.refusal;
-    if number != 0 {
-        return Next {
-            refusal: number,
-            steps,
-            row,
-            free,
-        };
+    due(at, by.budget)?;
+    let judged = Grounds {
+        held,
+        masks: by.masks,
+        terms: by.terms,
+    };
+    let guard = steps::judge(by.tables, judged, usize::from(operand))?;
+    let depth = usize::from(depth);
+    labels[depth + 1] = labels[depth] & guard.label;
+    if guard.passes {
+        return Ok(Place {
+            row: at.row + 1,
+            steps: at.steps + 1,
+            free: at.free,
+        });
     }
-    let inside = depth + 1;
-    labels[inside] = labels[depth] & x.label;
-    let passes = x.passes;
-    if passes {
-        return Next {
-            refusal: 0,
-            steps: steps + 1,
-            row: row + 1,
-            free,
-        };
-    }
-    // (Read again, and not held since the first reading: the passing way needs no register for it.)
-    let again = rows[row];
-    let other = wide16(again[Row::SECOND]);
-    Next {
-        refusal: 0,
-        steps: steps + 1,
-        row: other,
-        free,
-    }
+    Ok(Place {
+        row: usize::from(*other),
+        steps: at.steps + 1,
+        free: at.free,
+    })
 }
 
-// A step: 17 comes before all that it judges.
-fn take_step(
-    rows: &Rows,
-    operands: &Operands,
-    payloads: &Payloads,
-    labels: &mut Labels,
-    held: &mut Held,
-    masks: &Masks,
-    terms: Terms,
-    budget: u32,
-    row: usize,
-    steps: u32,
-    free: usize,
-) -> Next
-    requires { CanTake (given terms masks.now (tables_of rows.now operands.now payloads.now) budget) (place row steps free labels.old held.old) }
-    ensures { Moved (given terms masks.now (tables_of rows.now operands.now payloads.now) budget)
-        (place row steps free labels.old held.old) labels.new held.new (control result) }
+// The offset of a row's command.
+#[tactic(auto, unfolding(syntax::specs::Rows::offset_of))]
+fn offset_of(row: Row) -> usize
+    ensures { result ≡ offset_of row }
 {
-    if steps == budget {
-        return Next {
-            refusal: Answer::BUDGET_SPENT,
-            steps,
-            row,
-            free,
-        };
+    match row {
+        Row::Assign { offset, .. } => usize::from(offset),
+        Row::Guard { offset, .. } => usize::from(offset),
+        Row::End => 0,
+        Row::Jump { target: _ } => 0,
     }
-    let r = rows[row];
-    if r[Row::KIND] == Row::ASSIGN {
-        take_assign(
-            rows, operands, payloads, labels, held, masks, terms, budget, row, steps, free,
-        )
-    } else {
-        take_guard(
-            rows, operands, payloads, labels, held, masks, terms, budget, row, steps, free,
-        )
-    }
-}
-
-// Takes a row that is no end row.
-fn advance(
-    rows: &Rows,
-    operands: &Operands,
-    payloads: &Payloads,
-    labels: &mut Labels,
-    held: &mut Held,
-    masks: &Masks,
-    terms: Terms,
-    budget: u32,
-    row: usize,
-    steps: u32,
-    free: usize,
-) -> Next
-    requires { CanMove (given terms masks.now (tables_of rows.now operands.now payloads.now) budget) (place row steps free labels.old held.old) }
-    ensures { Moved (given terms masks.now (tables_of rows.now operands.now payloads.now) budget)
-        (place row steps free labels.old held.old) labels.new held.new (control result) }
-{
-    let r = rows[row];
-    if r[Row::KIND] == Row::JUMP {
-        let target = wide16(r[Row::FIRST]);
-        return Next {
-            refusal: 0,
-            steps,
-            row: target,
-            free,
-        };
-    }
-    take_step(
-        rows, operands, payloads, labels, held, masks, terms, budget, row, steps, free,
-    )
 }
 
 // Runs from a row on, with the labels in force there, to its block's end or to the first step that is refused. Where the budget is spent or no
 // entry is free, the run goes on from the row that it stopped at, with the labels and the store as they are then.
-pub fn go(
-    rows: &Rows,
-    operands: &Operands,
-    payloads: &Payloads,
-    labels: &mut Labels,
-    held: &mut Held,
-    masks: &Masks,
-    terms: Terms,
-    budget: u32,
-    row: usize,
-    steps: u32,
-    free: usize,
-) -> Ran
-    requires { CanGo (given terms masks.now (tables_of rows.now operands.now payloads.now) budget) (place row steps free labels.old held.old) }
-    ensures { Went (given terms masks.now (tables_of rows.now operands.now payloads.now) budget)
-        (place row steps free labels.old held.old) labels.new held.new result }
+pub fn go(by: Given, labels: &mut Labels, held: &mut Held, from: Place) -> Result<Place, Stop>
+    requires { CanGo (given_of by) (place_of from labels.old held.old) }
+    ensures { Went (given_of by.entry)
+        (place_of from labels.old held.old) labels.new held.new result }
 {
-    let mut next = Next {
-        refusal: 0,
-        steps,
-        row,
-        free,
-    };
+    let mut at = from;
     loop {
-        let number = next.refusal;
-        let here = next.row;
-        let done = next.steps;
-        let left = next.free;
-        let r = rows[here];
-        if number != 0 {
-            let at = wide16(r[Row::OFFSET]);
-            return Ran::Stopped {
-                number,
-                row: here,
-                at,
-                steps: done,
-            };
+        let row = &by.tables.rows[at.row];
+        let next = match row {
+            Row::End => {
+                return Ok(at);
+            }
+            Row::Jump { target } => Ok(Place {
+                row: usize::from(*target),
+                steps: at.steps,
+                free: at.free,
+            }),
+            Row::Assign {
+                depth,
+                offset: _,
+                target,
+                value,
+            } => take_assign(by, labels, held, at, *depth, *target, *value),
+            Row::Guard {
+                depth,
+                offset: _,
+                operand,
+                other,
+            } => take_guard(by, labels, held, at, *depth, *operand, other),
+        };
+        match next {
+            Ok(place) => {
+                at = place;
+            }
+            // (The row is read again: held since the first reading, it takes a register from every step.)
+            Err(refusal) => {
+                return Err(Stop {
+                    refusal,
+                    row: at.row,
+                    offset: offset_of(by.tables.rows[at.row]),
+                    steps: at.steps,
+                });
+            }
         }
-        if r[Row::KIND] == Row::END {
-            return Ran::Done {
-                row: here,
-                steps: done,
-                free: left,
-            };
-        }
-        next = advance(
-            rows, operands, payloads, labels, held, masks, terms, budget, here, done, left,
-        );
     }
 }

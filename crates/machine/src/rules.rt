@@ -33,8 +33,6 @@ impl Terms {
 // What a rule set judges.
 #[derive(Clone, Copy)]
 pub struct Judges {
-    // Whether the rule number is one.
-    pub known: bool,
     pub views: bool,
     pub regions: bool,
     pub labels: bool,
@@ -55,89 +53,60 @@ impl Judges {
     pub const MOST_BUDGET: u32 = 1_000_000;
 }
 
-// What the rule set of a rule number judges.
-pub fn judges_of(rule: u32) -> Judges
+// What the rule set of a rule number judges, where there is one.
+#[tactic(auto, unfolding(crate::specs::BlockRuns::judges_of, crate::specs::BlockRuns::judging_of, crate::specs::MachineNumbers::judges_labels, crate::specs::MachineNumbers::judges_branch, calculus::specs::Rules::rules_of, calculus::specs::Rules::judges_views, calculus::specs::Rules::judges_region))]
+pub fn judges_of(rule: u32) -> Option<Judges>
     ensures { result ≡ judges_of (rules_of rule) }
 {
-    let none = Judges {
-        known: false,
-        views: false,
-        regions: false,
-        labels: false,
-        branches: false,
-    };
-    let full_provenance = Judges {
-        known: true,
-        views: false,
-        regions: true,
-        labels: true,
-        branches: true,
-    };
-    if rule == Judges::ACCESS_CONTROL {
-        return Judges {
-            known: true,
+    match rule {
+        Judges::ACCESS_CONTROL => Some(Judges {
             views: false,
             regions: true,
             labels: false,
             branches: false,
-        };
-    }
-    if rule == Judges::CAPABILITY {
-        return Judges {
-            known: true,
+        }),
+        Judges::CAPABILITY => Some(Judges {
             views: true,
             regions: false,
             labels: false,
             branches: false,
-        };
-    }
-    if rule == Judges::EXPLICIT_PROVENANCE {
-        return Judges {
-            known: true,
+        }),
+        Judges::EXPLICIT_PROVENANCE => Some(Judges {
             views: false,
             regions: true,
             labels: true,
             branches: false,
-        };
-    }
-    if rule == Judges::FULL_PROVENANCE {
-        return full_provenance;
-    }
-    if rule == Judges::DEFAULT {
-        full_provenance
-    } else {
-        none
+        }),
+        Judges::FULL_PROVENANCE | Judges::DEFAULT => Some(Judges {
+            views: false,
+            regions: true,
+            labels: true,
+            branches: true,
+        }),
+        _ => None,
     }
 }
 
 // A floor as it is held.
+#[tactic(auto, unfolding(crate::specs::MachineNumbers::floor_held))]
 fn floor_of(endorsed: bool, floor: u8) -> u8
     ensures { result ≡ floor_held endorsed floor }
 {
-    if endorsed {
-        return floor;
-    }
-    Terms::NO_FLOOR
+    if endorsed { floor } else { Terms::NO_FLOOR }
 }
 
 // What a block runs under.
-pub(crate) fn terms_of(table: Table, judges: Judges, header: Header) -> Terms
+pub(crate) fn terms_of(table: &Table, judges: Judges, header: Header) -> Terms
     requires { header.region < most_principals }
-    ensures { Served table judges header result }
+    ensures { Served table.now judges header result }
 {
-    let n = table.n;
-    let masks = table.masks;
-    let region = header.region;
-    let mask = masks[region];
-    let top = lattice::top_mask(n);
-    let floor = floor_of(header.endorsed, header.floor);
     Terms {
         views: judges.views,
         regions: judges.regions,
         labels: judges.labels,
         branches: judges.branches,
-        floor,
-        region: mask,
-        top,
+        floor: floor_of(header.endorsed, header.floor),
+        region: table.masks[header.region],
+        top: lattice::top_mask(table.n),
     }
 }

@@ -1,47 +1,56 @@
-// The held store: a row for each slot, of its kind, payload, owner and count of writes.
+// The held store: a slot's kind, payload, owner and count of writes.
 ghost use Rattle.std.specs.Prelude.{◌≡◌, ◌<◌};
 ghost use Rattle.values.specs.Value.{write_view};
 ghost use Rattle.store.specs.Sheet.{most_slots};
-ghost use Rattle.machine.specs.MachineContracts.{grounds, CanJudge, RowRead, Admits, FewWrites, PutsWrite};
+ghost use Rattle.machine.specs.MachineContracts.{grounds_of, CanJudge, RowRead, Admits, FewWrites, PutsWrite};
 
 use super::rules::Terms;
+use super::steps::Write;
 use lattice::Masks;
-use store::{Held, Opened, SlotRow};
+use store::{Held, HeldSlot};
 
-// A slot's row.
-pub fn row_of(held: &Held, slot: u64) -> SlotRow
+// What is judged by: the held store, the masks of the principals, and what the block runs under.
+#[derive(Clone, Copy)]
+pub struct Grounds<'a> {
+    pub held: &'a Held,
+    pub masks: &'a Masks,
+    pub terms: &'a Terms,
+}
+
+// A slot.
+pub fn row_of(held: &Held, slot: u64) -> HeldSlot
     requires { slot < most_slots }
     ensures { RowRead held.now slot result }
 {
-    let i = slot as usize;
-    held[i]
+    held[slot as usize]
 }
 
 // Rule 1: whether the region may hold this value (15).
-pub(crate) fn admitted(held: &Held, masks: &Masks, terms: Terms, kind: u64, payload: u64) -> bool
-    requires { CanJudge (grounds terms masks.now held.now) × (kind ≡ write_view → payload < most_slots) }
-    ensures { Admits (grounds terms masks.now held.now) kind payload result }
+pub(crate) fn admitted(by: Grounds, kind: u64, payload: u64) -> bool
+    requires { CanJudge (grounds_of by) × (kind ≡ write_view → payload < most_slots) }
+    ensures { Admits (grounds_of by.entry) kind payload result }
 {
-    let views = terms.views;
-    if !views {
+    if !by.terms.views {
         return true;
     }
     if !store::is_write_view(kind) {
         return true;
     }
-    let slot = store::viewed(payload);
-    let row = row_of(held, slot);
-    let owner = row[Opened::ROW_OWNER] as usize;
-    lattice::has_bit(terms.region, owner)
+    let row = row_of(by.held, store::viewed(payload));
+    lattice::has_bit(by.terms.region, row.owner as usize)
 }
 
-// Puts what an assignment writes into its slot's row, and counts the write.
-pub fn put(held: &mut Held, slot: u64, kind: u64, payload: u64, owner: u64)
-    requires { (slot < most_slots) × FewWrites held.old slot }
-    ensures { PutsWrite held.old held.new slot kind payload owner }
+// Puts what an assignment writes into its slot, and counts the write.
+pub fn put(held: &mut Held, write: Write)
+    requires { (write.slot < most_slots) × FewWrites held.old write.slot }
+    ensures { PutsWrite held.old held.new write.slot write.kind write.payload write.owner }
 {
-    let i = slot as usize;
-    let row = held[i];
-    let writes = row[Opened::ROW_WRITES];
-    held[i] = [kind, payload, owner, writes + 1];
+    let i = write.slot as usize;
+    let writes = held[i].writes;
+    held[i] = HeldSlot {
+        kind: write.kind,
+        payload: write.payload,
+        owner: write.owner,
+        writes: writes + 1,
+    };
 }

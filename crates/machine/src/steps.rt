@@ -1,71 +1,59 @@
 // Guards and assignments: what the rule set judges of them.
 ghost use Rattle.std.specs.Prelude.{◌≡◌, ◌<◌};
 ghost use Rattle.store.specs.Sheet.{most_slots};
-ghost use Rattle.machine.specs.Answers.{Judging, judging, Making, making};
-ghost use Rattle.machine.specs.MachineContracts.{grounds, both_tables, CanJudge, SomeExpr, JudgesGuard, MeetsJudged, Relies, Permits, JudgesAssignment};
+ghost use Rattle.machine.specs.Answers.{judging, making};
+ghost use Rattle.machine.specs.MachineContracts.{grounds_of, CanJudge, SomeExpr, JudgesGuard, MeetsJudged, Relies, Permits, JudgesAssignment};
 
+use super::expressions::Labelled;
 use super::rules::Terms;
+use super::slots::Grounds;
 use super::{expressions, slots};
-use lattice::Masks;
-use programme::{Operands, Payloads};
-use store::{Answer, Held, Opened, Value};
+use store::Value;
+use syntax::Compiled;
+use values::Refusal;
 
-// Whether a guard passes, with its label; or the number of its refusal.
+// Who uses a value. `FOR` gives each an instance of `eval`, `aim`, `permit` and `assign` to itself, which is called in one place and so put in line.
+// Shared by both passes, an assignment takes twice as long; shared by guards and values, a guard three times.
+#[derive(Drop)]
+pub struct Use {}
+
+impl Use {
+    pub const FIRST_PASS: u8 = 1;
+
+    pub const SECOND_PASS: u8 = 2;
+
+    pub const GUARD: u8 = 3;
+}
+
+// Whether a guard passes, with its label.
 #[derive(Clone, Copy)]
 pub struct Judged {
-    pub refusal: u32,
     pub passes: bool,
     pub label: u32,
 }
 
-// What an assignment writes, with the slot's owner; or the number of its refusal.
+// What an assignment writes, with the slot's owner.
 #[derive(Clone, Copy)]
-pub struct Made {
-    pub kind: u64,
-    pub refusal: u32,
-    pub payload: u64,
+pub struct Write {
     pub slot: u64,
+    pub kind: u64,
+    pub payload: u64,
     pub owner: u64,
 }
 
-fn refused_guard(number: u32) -> Judged
-    requires { 0 < number }
-    ensures { judging result ≡ Judging.Refused number }
-{
-    Judged {
-        refusal: number,
-        passes: false,
-        label: 0,
-    }
-}
-
 // Judges the guard at operand o: the expression, then its kind.
-pub(crate) fn judge(
-    operands: &Operands,
-    payloads: &Payloads,
-    held: &Held,
-    masks: &Masks,
-    terms: Terms,
-    o: usize,
-) -> Judged
-    requires { CanJudge (grounds terms masks.now held.now) × SomeExpr (both_tables operands.now payloads.now) o }
-    ensures { JudgesGuard (grounds terms masks.now held.now) (both_tables operands.now payloads.now) o (judging result) }
+pub(crate) fn judge(tables: &Compiled, by: Grounds, o: usize) -> Result<Judged, Refusal>
+    requires { CanJudge (grounds_of by) × SomeExpr tables.now.operands o }
+    ensures { JudgesGuard (grounds_of by.entry) tables.now.operands o (judging result) }
 {
-    let x = expressions::eval_guard(operands, payloads, held, masks, terms, o);
-    let number = x.refusal;
-    let kind = x.kind;
-    let payload = x.payload;
-    if number != 0 {
-        return refused_guard(number);
+    let x = expressions::eval::<{ Use::GUARD }>(tables, by, o)?;
+    if x.kind != u64::from(Value::TRUTH) {
+        return Err(Refusal::WrongKind);
     }
-    if kind != Value::TRUTH as u64 {
-        return refused_guard(Answer::WRONG_KIND);
-    }
-    Judged {
-        refusal: 0,
-        passes: payload == Value::TRUE,
+    Ok(Judged {
+        passes: x.payload == Value::TRUE,
         label: x.label,
-    }
+    })
 }
 
 // The meet of the labels that are judged where any are: target and value, under rule 3 the branch too.
@@ -73,109 +61,63 @@ fn meet_judged(branches: bool, target: u32, value: u32, branch: u32) -> u32
     ensures { MeetsJudged branches target value branch result }
 {
     let both = target & value;
-    if branches {
-        return both & branch;
-    }
-    both
+    if branches { both & branch } else { both }
 }
 
 // Whether the labels that the rule set judges stand at or above the owner, or where the block is endorsed at or above its floor (16).
-pub(crate) fn reliable(terms: Terms, owner: u64, target: u32, value: u32, branch: u32) -> bool
-    ensures { Relies terms owner target value branch result }
+fn reliable(terms: &Terms, owner: u64, target: u32, value: u32, branch: u32) -> bool
+    ensures { Relies terms.now owner target value branch result }
 {
-    let labels = terms.labels;
-    let floor = terms.floor;
-    if !labels {
+    if !terms.labels {
         return true;
     }
     let judged = meet_judged(terms.branches, target, value, branch);
     if lattice::has_bit(judged, owner as usize) {
         return true;
     }
-    lattice::has_bit(judged, floor as usize)
+    lattice::has_bit(judged, usize::from(terms.floor))
 }
 
-pub(crate) fn refused_write(number: u32) -> Made
-    requires { 0 < number }
-    ensures { making result ≡ Making.Refused number }
-{
-    Made {
-        kind: 0,
-        refusal: number,
-        payload: 0,
-        slot: 0,
-        owner: 0,
-    }
-}
-
-// Judges an assignment whose target names `slot`: the region (14), then the labels (16).
-fn permit(
-    held: &Held,
-    masks: &Masks,
-    terms: Terms,
-    slot: u64,
-    target: u32,
-    kind: u64,
-    payload: u64,
-    value: u32,
+// Judges an assignment of a value to the slot that a target names: the region (14), then the labels (16).
+fn permit<const FOR: u8>(
+    by: Grounds,
+    target: Labelled,
+    value: Labelled,
     branch: u32,
-) -> Made
-    requires { CanJudge (grounds terms masks.now held.now) × (slot < most_slots) }
-    ensures { Permits (grounds terms masks.now held.now) slot target kind payload value branch (making result) }
+) -> Result<Write, Refusal>
+    requires { CanJudge (grounds_of by) × (target.payload < most_slots) }
+    ensures { Permits (grounds_of by.entry) target.payload target.label value.kind value.payload value.label branch (making result) }
 {
-    let row = slots::row_of(held, slot);
-    let owner = row[Opened::ROW_OWNER];
-    let regions = terms.regions;
-    if regions {
-        if !lattice::has_bit(terms.region, owner as usize) {
-            return refused_write(Answer::NO_AUTHORITY);
+    let slot = store::viewed(target.payload);
+    let owner = slots::row_of(by.held, slot).owner;
+    if by.terms.regions {
+        if !lattice::has_bit(by.terms.region, owner as usize) {
+            return Err(Refusal::NoAuthority);
         }
     }
-    if !reliable(terms, owner, target, value, branch) {
-        return refused_write(Answer::PROVENANCE_TOO_LOW);
+    if !reliable(by.terms, owner, target.label, value.label, branch) {
+        return Err(Refusal::ProvenanceTooLow);
     }
-    Made {
-        kind,
-        refusal: 0,
-        payload,
+    Ok(Write {
         slot,
+        kind: value.kind,
+        payload: value.payload,
         owner,
-    }
+    })
 }
 
 // Judges an assignment by its operands: the target and its kind, the value, then 14 and 16.
-pub(crate) fn assign(
-    operands: &Operands,
-    payloads: &Payloads,
-    held: &Held,
-    masks: &Masks,
-    terms: Terms,
+pub fn assign<const FOR: u8>(
+    tables: &Compiled,
+    by: Grounds,
     target: usize,
     value: usize,
     branch: u32,
-) -> Made
-    requires { CanJudge (grounds terms masks.now held.now) × SomeExpr (both_tables operands.now payloads.now) target × SomeExpr (both_tables operands.now payloads.now) value }
-    ensures { JudgesAssignment (grounds terms masks.now held.now) (both_tables operands.now payloads.now) target value branch (making result) }
+) -> Result<Write, Refusal>
+    requires { CanJudge (grounds_of by) × SomeExpr tables.now.operands target × SomeExpr tables.now.operands value }
+    ensures { JudgesAssignment (grounds_of by.entry) tables.now.operands target value branch (making result) }
 {
-    let x = expressions::aim(operands, payloads, held, masks, terms, target);
-    let number = x.refusal;
-    if number != 0 {
-        return refused_write(number);
-    }
-    let y = expressions::eval(operands, payloads, held, masks, terms, value);
-    let barred = y.refusal;
-    if barred != 0 {
-        return refused_write(barred);
-    }
-    permit(
-        held,
-        masks,
-        terms,
-        store::viewed(x.payload),
-        x.label,
-        y.kind,
-        y.payload,
-        y.label,
-        branch,
-    )
+    let x = expressions::aim::<FOR>(tables, by, target)?;
+    let y = expressions::eval::<FOR>(tables, by, value)?;
+    permit::<FOR>(by, x, y, branch)
 }

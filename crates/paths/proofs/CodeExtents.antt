@@ -1,5 +1,5 @@
 -- Where expressions and commands end and how many rows they have, by the first byte. Serves `skip_expr` and `span_at`. Assumes nothing.
-use Prim.Native.Nat.{ℕ, zero, suc, ◌+◌, ◌-◌, ◌≤◌, ◌<◌}
+use Prim.Native.Nat.{ℕ, zero, suc, ◌+◌, ◌≤◌, ◌<◌}
 use mathlib.Core.Path.{◌≡◌, refl, sym, ap, ◌∙◌}
 use mathlib.Core.List.{List}
 use native.Mathlib.Omega.{arith}
@@ -184,11 +184,11 @@ module _ (code : List ℕ) (here left rows end total : ℕ) where
       go nil l e = absurd (omega arith)
       go (cons c cs) l e = record { command = c; sits = record { end = l.middle; lies = l.first } }
 
-  pub left_on : (next more : ℕ) → 0 < left → Skips code here next more → Left code here left rows end total → Left code next (left - 1) (rows + more) end total
+  pub left_on : (next more fewer : ℕ) → fewer + 1 ≡ left → Skips code here next more → Left code here left rows end total → Left code next fewer (rows + more) end total
   unfolding LieAll count size_all
-  left_on next more k f h = go h.commands h.lie h.counted h.sized
+  left_on next more fewer k f h = go h.commands h.lie h.counted h.sized
     where
-      go : (cs : Cmds) → LieAll code cs here end → count cs ≡ left → rows + size_all cs ≡ total → Left code next (left - 1) (rows + more) end total
+      go : (cs : Cmds) → LieAll code cs here end → count cs ≡ left → rows + size_all cs ≡ total → Left code next fewer (rows + more) end total
       go nil l e z = absurd (omega arith)
       go (cons c cs) l e z =
           let x = f c l.middle l.first in

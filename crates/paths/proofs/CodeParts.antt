@@ -1,10 +1,11 @@
 -- A command's children: where each lies, its first row, what leads through it. Serves `child_at`, `part_at` and `takes_step`. Assumes nothing.
 use Prim.Native.Nat.{ℕ, zero, suc, ◌+◌, ◌≤◌, ◌<◌}
 use mathlib.Core.Path.{◌≡◌, refl, ap, ◌∙◌}
-use mathlib.Core.Bool.{true, false}
+use mathlib.Core.Bool.{false, not}
 use mathlib.Core.List.{List}
 use native.Mathlib.Omega.{arith}
 use lib.ListN.{get_or}
+use lib.Dec.{eqb}
 use borrow.Author.Tests.{eq-eqb, eqb-true}
 use Rattle.lattice.specs.Order.{Label}
 use Rattle.syntax.specs.Syntax.{Expr, Cmd, cmd, skip, assign, seq, if, while, Cmds, nil, cons}
@@ -14,8 +15,8 @@ use Rattle.calculus.specs.Calculus.{choose}
 use Rattle.pausing.specs.Paths.{Open, nowhere, in_sequence, child_in, child_of, child, steps_body, takes_step}
 use Rattle.pausing.specs.RowPaths.{row_to, row_body, row_in, Along, AlongBody, AlongIn}
 use Rattle.paths.specs.CodeLayout.{count, opcode, Lies, LieAll, Sits, SomeCmd, Left, SomeCmds, SkipsExpr, Skips, SkipsAll}
-use Rattle.paths.specs.CodeParts.{inside, Enters, PartAs}
-use Rattle.paths.specs.declared.walking.Part.TheVariants as p
+use Rattle.paths.specs.CodeParts.{inside, Enters, PartIs}
+use Rattle.paths.specs.declared.walking.Part.{Part}
 use Rattle.paths.proofs.CodeLayout.{expr_within, lies_within, lies_slim, lie_slim, by_skip, by_seq, by_if, by_while_byte, by_other}
 
 -- the k-th of commands, and those before it
@@ -125,6 +126,9 @@ unfolding child child_of
 while_past o g c zero i = absurd (i refl)
 while_past o g c (suc k) i = refl
 
+abbrev pub part : ℕ → ℕ → ℕ → Part
+part there deeper rows = record { there = there; deeper = deeper; rows = rows }
+
 -- What is found of a child.
 module _ (code : List ℕ) (at k : ℕ) where
   module _ (b : get_or code at 0 ≡ 0x22) where
@@ -135,81 +139,75 @@ module _ (code : List ℕ) (at k : ℕ) where
         s.command s.sits.lies
 
     pub seq_inside : (next rows : ℕ) → k < get_or code (at + 1) 0 → SkipsAll code (at + 2) k next rows → (c : Cmd) → Sits code c at
-        → PartAs code at c k (p.Inside next 0 rows)
+        → PartIs code at c k (part next 0 rows)
     seq_inside next rows l f c s =
-        by_seq code at s.end (λ c. PartAs code at c k (p.Inside next 0 rows)) b
+        by_seq code at s.end (λ c. PartIs code at c k (part next 0 rows)) b
         (λ o cs q i h w.
         let n = nth code cs k (at + 2) s.end h (omega arith) in
         let e = f n.there n.total n.left in
         let u = lie_slim code n.left.commands (at + 2) n.there n.left.lie in
-        PartAs.inside_at {there = next} {deeper = 0} {rows = rows} n.tree (rw e.1 (enters_seq o cs k n)) (rw e.0 (record { end = n.end; lies = n.lies }))
-        (omega (arith, e.0, e.1, u, n.left.sized)))
+        record { tree = n.tree; enters = rw e.1 (enters_seq o cs k n); sits = rw e.0 (record { end = n.end; lies = n.lies }); slim = omega (arith, e.0, e.1, u, n.left.sized) })
         c s.lies
 
-    pub seq_nowhere : get_or code (at + 1) 0 ≤ k → (c : Cmd) → Sits code c at → PartAs code at c k p.Nowhere
+    pub seq_nowhere : get_or code (at + 1) 0 ≤ k → (c : Cmd) → Sits code c at → child c k ≡ nowhere
     unfolding child child_of
     seq_nowhere l c s =
-        by_seq code at s.end (λ c. PartAs code at c k p.Nowhere) b (λ o cs q i h w. PartAs.nowhere_at (child_past cs k (omega arith))) c s.lies
+        by_seq code at s.end (λ c. child c k ≡ nowhere) b (λ o cs q i h w. child_past cs k (omega arith)) c s.lies
 
   module _ (b : get_or code at 0 ≡ 0x23) (m : ℕ) (f : SkipsExpr code (at + 1) m) where
-    pub then_inside : k ≡ 0 → (c : Cmd) → Sits code c at → PartAs code at c k (p.Inside m 1 1)
+    pub then_inside : k ≡ 0 → (c : Cmd) → Sits code c at → PartIs code at c k (part m 1 1)
     then_inside z c s =
         rw z
-        (by_if code at s.end (λ c. PartAs code at c 0 (p.Inside m 1 1)) b
+        (by_if code at s.end (λ c. PartIs code at c 0 (part m 1 1)) b
         (λ o g c d n i h u v. let e = f g n h in
-        PartAs.inside_at {there = m} {deeper = 1} {rows = 1} c (enters_then o g c d) (rw e (record { end = i; lies = u })) (omega (arith, e, (expr_within code g (at + 1) n h).0)))
+        record { tree = c; enters = enters_then o g c d; sits = rw e (record { end = i; lies = u }); slim = omega (arith, e, (expr_within code g (at + 1) n h).0) })
         c s.lies)
 
     pub else_inside : (next rows jump : ℕ) → k ≡ 1 → Skips code m next rows → ((c : Cmd) (end : ℕ) → Lies code c next end → jump ≡ between (size c))
-        → (c : Cmd) → Sits code c at → PartAs code at c k (p.Inside next 1 (1 + rows + jump))
+        → (c : Cmd) → Sits code c at → PartIs code at c k (part next 1 (1 + rows + jump))
     else_inside next rows jump z h l c s =
         rw z
-        (by_if code at s.end (λ c. PartAs code at c 1 (p.Inside next 1 (1 + rows + jump))) b
+        (by_if code at s.end (λ c. PartIs code at c 1 (part next 1 (1 + rows + jump))) b
         (λ o g c d n i q u v.
         let e = f g n q in
         let y = h c i (rw e u) in
         let x = l d s.end (rw y.0 v) in
         let w : 1 + rows + jump ≡ 1 + size c + between (size d) = omega (arith, y.1, x) in
-        PartAs.inside_at {there = next} {deeper = 1} {rows = 1 + rows + jump} d (rw w (enters_else o g c d)) (rw y.0 (record { end = s.end; lies = v }))
-        (omega (arith, w, y.0, lies_slim code c n i u, (expr_within code g (at + 1) n q).0, between_most (size d))))
+        record { tree = d; enters = rw w (enters_else o g c d); sits = rw y.0 (record { end = s.end; lies = v }); slim = omega (arith, w, y.0, lies_slim code c n i u, (expr_within code g (at + 1) n q).0, between_most (size d)) })
         c s.lies)
 
-    pub if_nowhere : (k ≡ 0 → ⊥) → (k ≡ 1 → ⊥) → (c : Cmd) → Sits code c at → PartAs code at c k p.Nowhere
+    pub if_nowhere : (k ≡ 0 → ⊥) → (k ≡ 1 → ⊥) → (c : Cmd) → Sits code c at → child c k ≡ nowhere
     if_nowhere i j c s =
-        by_if code at s.end (λ c. PartAs code at c k p.Nowhere) b (λ o g c d n q h u v. PartAs.nowhere_at (if_past o g c d k i j)) c s.lies
+        by_if code at s.end (λ c. child c k ≡ nowhere) b (λ o g c d n q h u v. if_past o g c d k i j) c s.lies
 
   module _ (b : get_or code at 0 ≡ 0x24) where
-    pub body_inside : (m : ℕ) → SkipsExpr code (at + 1) m → k ≡ 0 → (c : Cmd) → Sits code c at → PartAs code at c k (p.Inside m 1 1)
+    pub body_inside : (m : ℕ) → SkipsExpr code (at + 1) m → k ≡ 0 → (c : Cmd) → Sits code c at → PartIs code at c k (part m 1 1)
     body_inside m f z c s =
         rw z
-        (by_while_byte code at s.end (λ c. PartAs code at c 0 (p.Inside m 1 1)) b
+        (by_while_byte code at s.end (λ c. PartIs code at c 0 (part m 1 1)) b
         (λ o g c n h u. let e = f g n h in
-        PartAs.inside_at {there = m} {deeper = 1} {rows = 1} c (enters_body o g c c) (rw e (record { end = s.end; lies = u })) (omega (arith, e, (expr_within code g (at + 1) n h).0)))
+        record { tree = c; enters = enters_body o g c c; sits = rw e (record { end = s.end; lies = u }); slim = omega (arith, e, (expr_within code g (at + 1) n h).0) })
         c s.lies)
 
-    pub while_nowhere : (k ≡ 0 → ⊥) → (c : Cmd) → Sits code c at → PartAs code at c k p.Nowhere
+    pub while_nowhere : (k ≡ 0 → ⊥) → (c : Cmd) → Sits code c at → child c k ≡ nowhere
     while_nowhere i c s =
-        by_while_byte code at s.end (λ c. PartAs code at c k p.Nowhere) b (λ o g c n h u. PartAs.nowhere_at (while_past o g c k i)) c s.lies
+        by_while_byte code at s.end (λ c. child c k ≡ nowhere) b (λ o g c n h u. while_past o g c k i) c s.lies
 
-  pub other_nowhere : (get_or code at 0 ≡ 0x22 → ⊥) → (get_or code at 0 ≡ 0x23 → ⊥) → (get_or code at 0 ≡ 0x24 → ⊥) → (c : Cmd) → Sits code c at → PartAs code at c k p.Nowhere
+  pub other_nowhere : (get_or code at 0 ≡ 0x22 → ⊥) → (get_or code at 0 ≡ 0x23 → ⊥) → (get_or code at 0 ≡ 0x24 → ⊥) → (c : Cmd) → Sits code c at → child c k ≡ nowhere
   unfolding child child_of
   other_nowhere i j l c s =
-      by_other code at s.end (λ c. PartAs code at c k p.Nowhere) i j l (λ o. PartAs.nowhere_at refl) (λ o x v. PartAs.nowhere_at refl) c s.lies
+      by_other code at s.end (λ c. child c k ≡ nowhere) i j l (λ o. refl) (λ o x v. refl) c s.lies
 
--- Whether a command takes a step.
+-- Whether a command takes a step: whether its byte is no skip's and no sequence's.
 module _ (code : List ℕ) (at : ℕ) where
-  pub skip_steps : get_or code at 0 ≡ 0x20 → (c : Cmd) (end : ℕ) → Lies code c at end → false ≡ takes_step c
+  pub skip_steps : get_or code at 0 ≡ 0x20 → (c : Cmd) (end : ℕ) → Lies code c at end → not (eqb (get_or code at 0) 0x20) ≡ takes_step c
   unfolding takes_step steps_body
-  skip_steps e c end h = by_skip code at end (λ c. false ≡ takes_step c) e (λ o k. refl) c h
+  skip_steps e c end h = rw e (by_skip code at end (λ c. false ≡ takes_step c) e (λ o k. refl) c h)
 
-  pub seq_steps : get_or code at 0 ≡ 0x22 → (c : Cmd) (end : ℕ) → Lies code c at end → false ≡ takes_step c
-  unfolding takes_step steps_body
-  seq_steps e c end h = by_seq code at end (λ c. false ≡ takes_step c) e (λ o cs q i k w. refl) c h
-
-  pub other_steps : (get_or code at 0 ≡ 0x20 → ⊥) → (get_or code at 0 ≡ 0x22 → ⊥) → (c : Cmd) (end : ℕ) → Lies code c at end → true ≡ takes_step c
+  pub other_steps : (get_or code at 0 ≡ 0x20 → ⊥) → (c : Cmd) (end : ℕ) → Lies code c at end → not (eqb (get_or code at 0) 0x22) ≡ takes_step c
   unfolding Lies opcode takes_step steps_body
-  other_steps i j (cmd o skip) end h = absurd (i h.0)
-  other_steps i j (cmd o (assign x v)) end h = refl
-  other_steps i j (cmd o (seq cs)) end h = absurd (j h.0)
-  other_steps i j (cmd o (if g c d)) end h = refl
-  other_steps i j (cmd o (while g c)) end h = refl
+  other_steps i (cmd o skip) end h = absurd (i h.0)
+  other_steps i (cmd o (assign x v)) end h = rw h.0
+  other_steps i (cmd o (seq cs)) end h = rw h.0
+  other_steps i (cmd o (if g c d)) end h = rw h.0
+  other_steps i (cmd o (while g c)) end h = rw h.0

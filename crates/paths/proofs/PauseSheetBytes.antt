@@ -1,11 +1,11 @@
--- The bytes of a pause sheet (`pause_sheet`) as they are cleared and written. Serves `clear` and `pause`. Assumes nothing.
-use Prim.Native.Nat.{ℕ, suc, ◌+◌, ◌-◌, ◌≤◌, ◌<◌, ◌/◌, ◌%◌}
+-- The bytes of a pause sheet (`pause_sheet`) as they are written. Serves `pause`. Assumes nothing.
+use Prim.Native.Nat.{ℕ, suc, ◌+◌, ◌-◌, ◌≤◌, ◌/◌, ◌%◌}
 use mathlib.Core.Path.{◌≡◌, refl, sym, ap, ◌∙◌}
-use mathlib.Core.List.{List, [], ◌∷◌, ◌++◌, map, append_assoc, append-nil}
+use mathlib.Core.List.{List, [], ◌∷◌, ◌++◌, map, append_assoc}
 use native.Mathlib.Omega.{arith}
-use native.Mathlib.Numerals.{add-one}
-use lib.ListN.{length, get_or, set, replicate, drop, length-append, length-replicate, replicate-append-replicate, length-map, drop_of_length-le}
-use lib.Seq.{set_at, drop-cons}
+use lib.ListN.{length, set, replicate, drop, length-append, length-replicate, replicate-append-replicate, length-map}
+use lib.Seq.{set_at}
+use Rattle.std.specs.Int.{w32, to_le_bytes}
 use Rattle.values.specs.Bytes.{number_bytes}
 use Rattle.calculus.specs.Calculus.{State}
 use Rattle.pausing.specs.Paths.{Open}
@@ -68,40 +68,28 @@ puts_are (o ∷ p) size i a b k e =
 
 -- a sheet of zeros, with the steps in four bytes, the block, the entries, and then their number
 module _ (w x y z block : ℕ) where
-  abbrev pub Begun : List ℕ → List ℕ
-  Begun t = set (set (set (set (set t 0 w) 1 x) 2 y) 3 z) 5 block
-
   written : (size : ℕ) (p : List Open) → size ≡ length p → size ≤ most_open
-      → set (fills (Begun (zeros pause_width)) size 0 p) 4 size
+      → set (fills (set ((w ∷ x ∷ y ∷ z ∷ []) ++ drop 4 (zeros pause_width)) 5 block) size 0 p) 4 size
       ≡ w ∷ x ∷ y ∷ z ∷ length p ∷ block ∷ (children p ++ (labels p ++ zeros (pause_width - unused_at (length p))))
   written size p h k =
       ap (λ (t : List ℕ). set t 4 size) (fills_past w x y z 0 block (zeros 250) size 0 p)
       ∙ ap (λ (t : List ℕ). w ∷ x ∷ y ∷ z ∷ size ∷ block ∷ t) (puts_are p size 0 250 (pause_width - unused_at (length p)) (omega arith) (omega arith))
       ∙ ap (λ (n : ℕ). w ∷ x ∷ y ∷ z ∷ n ∷ block ∷ (children p ++ (labels p ++ zeros (pause_width - unused_at (length p))))) h
 
-pub paused : (steps block size : ℕ) (p : List Open) (t new : List ℕ) (s : State) → t ≡ replicate pause_width 0 → s.steps ≡ steps
-    → Traced (Begun (steps % 256) (steps / 256 % 256) (steps / 256 / 256 % 256) (steps / 256 / 256 / 256 % 256) block t) new 0 p size
-    → set new 4 size ≡ pause_sheet (standing block p s)
+-- a number's four bytes, the lowest first
+four_bytes : (n : ℕ) → to_le_bytes w32 n ≡ number_bytes 4 n
+unfolding number_bytes
+four_bytes n =
+    let a : n / 65536 % 256 ≡ n / 256 / 256 % 256 = omega arith in
+    let b : n / 16777216 % 256 ≡ n / 256 / 256 / 256 % 256 = omega arith in
+    rw (a, b)
+
+pub paused : (steps block size : ℕ) (p : List Open) (bytes zeroed new : List ℕ) (s : State) → bytes ≡ to_le_bytes w32 steps → zeroed ≡ replicate pause_width 0
+    → s.steps ≡ steps → Traced (set (bytes ++ drop 4 zeroed) 5 block) new 0 p size → set new 4 size ≡ pause_sheet (standing block p s)
 unfolding pause_sheet number_bytes
-paused steps block size p t new s e i h =
+paused steps block size p bytes zeroed new s b e i h =
     ap (λ (u : List ℕ). set u 4 size) h.filled
-    ∙ ap (λ (u : List ℕ). set (fills (Begun (steps % 256) (steps / 256 % 256) (steps / 256 / 256 % 256) (steps / 256 / 256 / 256 % 256) block u) size 0 p) 4 size) e
+    ∙ ap (λ (u : List ℕ). set (fills (set (u ++ drop 4 zeroed) 5 block) size 0 p) 4 size) (b ∙ four_bytes steps)
+    ∙ ap (λ (u : List ℕ). set (fills (set (number_bytes 4 steps ++ drop 4 u) 5 block) size 0 p) 4 size) e
     ∙ written (steps % 256) (steps / 256 % 256) (steps / 256 / 256 % 256) (steps / 256 / 256 / 256 % 256) block size p (omega (arith, h.size_is)) h.short
     ∙ ap (λ (n : ℕ). number_bytes 4 n ++ (length p ∷ block ∷ (children p ++ (labels p ++ zeros (pause_width - unused_at (length p)))))) (sym i)
-
--- Clearing.
-pub cleared_on : (s t : List ℕ) (i : ℕ) → length s ≡ pause_width → i < pause_width → t ≡ replicate i 0 ++ drop i s → set t i 0 ≡ replicate (i + 1) 0 ++ drop (i + 1) s
-cleared_on s t i h k e =
-    let z : i < length s = omega arith in
-    let y : i + 1 ≡ suc i = add-one i in
-    ap (λ (u : List ℕ). set u i 0) (e ∙ ap (λ (u : List ℕ). replicate i 0 ++ u) (drop-cons s i 0 z))
-    ∙ set_at (replicate i 0) (get_or s i 0) (drop (suc i) s) 0 i (length-replicate i 0)
-    ∙ sym (append_assoc (replicate i 0) (0 ∷ []) (drop (suc i) s))
-    ∙ ap (λ (u : List ℕ). u ++ drop (suc i) s) (sym (zeros_last i))
-    ∙ ap (λ (n : ℕ). replicate (i + 1) 0 ++ drop n s) (sym y)
-
-pub cleared_all : (s t : List ℕ) (i : ℕ) → length s ≡ pause_width → i ≡ pause_width → t ≡ replicate i 0 ++ drop i s → t ≡ replicate i 0
-cleared_all s t i h k e = e ∙ ap (λ (u : List ℕ). replicate i 0 ++ u) (drop_of_length-le s {i = i} (omega arith)) ∙ append-nil (zeros i)
-
-pub cleared_width : (t : List ℕ) → t ≡ replicate pause_width 0 → length t ≡ pause_width
-cleared_width t e = ap length e

@@ -6,8 +6,10 @@ use mathlib.Core.List.{List, [], ◌∷◌}
 use native.Mathlib.Omega.{arith}
 use lib.ListN.{length, get_or, set, length-set}
 use lib.Seq.{get_or-set_same, get_or-set_other, ext_get_or}
-use lib.Dec.{eqb, ltb}
-use borrow.Author.Tests.{eqb-true, eqb-false, ltb-true, ltb-false, lt-ltb, le-ltb}
+use Rattle.std.proofs.Common.{Option, None, Some}
+use Rattle.std.specs.Bool.{then_some}
+use lib.Dec.{eqb}
+use borrow.Author.Tests.{eqb-true, eqb-false, ltb-true, lt-ltb, le-ltb}
 use Rattle.lattice.specs.Tests.{◌and◌}
 use Rattle.lattice.specs.declared.Table.{Table}
 use Rattle.lattice.specs.Order.{Label, most_principals, bit, mask, good}
@@ -22,14 +24,10 @@ use Rattle.lattice.specs.HeldLabels.{LabelHeld}
 use Rattle.pausing.specs.RowPaths.{LabelsHeld}
 use Rattle.pausing.specs.RowPaths.{row_to, row_body, Along, AlongBody}
 use Rattle.paths.specs.CodeLayout.{Sits}
-use Rattle.paths.specs.CodeParts.{inside, Enters, PartAs}
-use Rattle.paths.specs.SheetPaths.{fits, EntryAs, Followed, FollowsAs, path_from}
+use Rattle.paths.specs.CodeParts.{inside, PartIs}
+use Rattle.paths.specs.SheetPaths.{fits, EntryIs, Followed, FollowsAs, path_from}
 use Rattle.paths.specs.declared.walking.Part.{Part}
-use Rattle.paths.specs.declared.walking.Part.TheVariants as p
 use Rattle.paths.specs.declared.checkpoint.Entry.{Entry}
-use Rattle.paths.specs.declared.checkpoint.Entry.TheVariants as e
-use Rattle.paths.specs.declared.checkpoint.Found.{Found}
-use Rattle.paths.specs.declared.checkpoint.Found.TheVariants as f
 
 -- Labels.
 module _ (t : Table) (label outer : Label) where
@@ -59,22 +57,14 @@ module _ (t : Table) (label outer : Label) where
   fits_flat (suc d) h z = absurd (omega arith)
 
 -- in a good table two principals have two masks
-pub one_mask : (t : Table) → good t ≡ true → (a b : Label) → a < t.n → b < t.n → mask t a ≡ mask t b → a ≡ b
-one_mask t g a b h k z =
+pub one_label : (t : Table) → good t ≡ true → {x : ℕ} {a b : Label} → LabelHeld t a x → LabelHeld t b x → a ≡ b
+one_label t g {a = a} {b = b} h k =
     let q = good_at t g in
-    q.anti a b h k (ap (λ (m : ℕ). bit m b) z ∙ q.self b k) (ap (λ (m : ℕ). bit m a) (sym z) ∙ q.self a h)
+    let z : mask t a ≡ mask t b = sym h.same ∙ k.same in
+    q.anti a b h.inside k.inside (ap (λ (m : ℕ). bit m b) z ∙ q.self b k.inside) (ap (λ (m : ℕ). bit m a) (sym z) ∙ q.self a h.inside)
 
 pub few_principals : (t : Table) → good t ≡ true → t.n ≤ most_principals
 few_principals t g = (good_at t g).few
-
--- no principal up to the j-th has a mask
-pub none_more : (masks : List ℕ) (x j : ℕ) → ((q : ℕ) → q < j → get_or masks q 0 ≡ x → ⊥) → (get_or masks j 0 ≡ x → ⊥) → (q : ℕ) → q < j + 1
-    → get_or masks q 0 ≡ x → ⊥
-none_more masks x j f g q h z = go (ltb q j) refl
-  where
-    go : (b : Bool) → ltb q j ≡ b → ⊥
-    go true y = f q (ltb-true q j y) z
-    go false y = let i : j ≡ q = omega (arith, ltb-false q j y) in g (rw i z)
 
 -- A path whose first entry leads nowhere, or whose label does not fit; and one that leads on
 module _ (t : Table) (c : Cmd) (outer : Label) (o : Open) (q : List Open) where
@@ -97,48 +87,17 @@ module _ (t : Table) (c : Cmd) (outer : Label) (o : Open) (q : List Open) where
 
 -- An entry.
 module _ (code : List ℕ) (t : Table) (at outer : ℕ) (c : Cmd) (o : Open) where
-  pub entry_inside : {k : ℕ} {r : Part} (there deeper rows label : ℕ) (b : Bool) → k ≡ o.child → PartAs code at c k r → r ≡ p.Inside there deeper rows → label ≡ o.label
-      → b ≡ fits t deeper label outer → b ≡ true → outer < t.n → EntryAs code t at c outer o (e.Inside there deeper rows label)
-  entry_inside there deeper rows label b x (PartAs.inside_at {there = there'} {deeper = deeper'} {rows = rows'} y n s l) h z v k i =
-      let a : there' ≡ there = cc in
-      let a₁ : deeper' ≡ deeper = cc in
-      let a₂ : rows' ≡ rows = cc in
-      let g : fits t deeper label outer ≡ true = sym v ∙ k in
-      let m : rows + at ≤ there = omega (arith, l) in
-      EntryAs.inside_at {there = there} {deeper = deeper} {rows = rows} {label = label} y (rw (a₁, a₂, x) at n) (rw (sym z) g) z (fits_small t label outer deeper i g) (rw a at s) m
-  entry_inside there deeper rows label b x (PartAs.nowhere_at n) h z v k i = absurd (let y : ◌≡◌ {A = ℕ} 0 1 = cc in omega arith)
+  pub entry_inside : {k : ℕ} (q : Part) (label : ℕ) → k ≡ o.child → PartIs code at c k q → label ≡ o.label → fits t q.deeper label outer ≡ true → outer < t.n
+      → EntryIs code t at c outer o (record { part = q; label = label })
+  entry_inside q label x n z k i =
+      record { part = rw x at n; fit = rw (sym z) k; same = z; small = fits_small t label outer q.deeper i k }
 
-  pub entry_unfit : {k : ℕ} {r : Part} (there deeper rows label : ℕ) (b : Bool) → k ≡ o.child → PartAs code at c k r → r ≡ p.Inside there deeper rows → label ≡ o.label
-      → b ≡ fits t deeper label outer → b ≡ false → EntryAs code t at c outer o e.Nowhere
-  entry_unfit there deeper rows label b x (PartAs.inside_at {there = there'} {deeper = deeper'} {rows = rows'} y n s l) h z v k =
-      let a₁ : deeper' ≡ deeper = cc in
-      let g : fits t deeper' o.label outer ≡ false = rw (a₁, sym z) (sym v ∙ k) in
-      EntryAs.nowhere_at (λ q. leads_unfit t c outer o q deeper' y (rw (sym x) n.is) g)
-  entry_unfit there deeper rows label b x (PartAs.nowhere_at n) h z v k = absurd (let y : ◌≡◌ {A = ℕ} 0 1 = cc in omega arith)
+  pub entry_unfit : {k : ℕ} (q : Part) (label : ℕ) → k ≡ o.child → PartIs code at c k q → label ≡ o.label → fits t q.deeper label outer ≡ false
+      → (p : List Open) → leads t c outer (o ∷ p) ≡ false
+  entry_unfit q label x n z k p = leads_unfit t c outer o p q.deeper n.tree (rw (sym x) n.enters.is) (rw (sym z) k)
 
-  pub entry_nowhere : {k : ℕ} {r : Part} → k ≡ o.child → PartAs code at c k r → r ≡ p.Nowhere → EntryAs code t at c outer o e.Nowhere
-  entry_nowhere x (PartAs.inside_at y n s l) h = absurd (let y : ◌≡◌ {A = ℕ} 0 1 = cc in omega arith)
-  entry_nowhere x (PartAs.nowhere_at n) h = EntryAs.nowhere_at (λ q. leads_nowhere t c outer o q (rw (sym x) n))
-
--- what is known of a child that may be gone into
-pub record Gone (code : List ℕ) (t : Table) (at : ℕ) (c : Cmd) (outer : Label) (o : Open) (there deeper rows label : ℕ) : Type 0 where
-  pub tree : Cmd
-  pub enters : Enters c o.child tree deeper rows
-  pub fit : fits t deeper o.label outer ≡ true
-  pub same : label ≡ o.label
-  pub small : label < t.n
-  pub sits : Sits code tree there
-  pub slim : rows + at ≤ there
-
-pub gone : {code : List ℕ} {t : Table} {at : ℕ} {c : Cmd} {outer : Label} {o : Open} {r : Entry} (there deeper rows label : ℕ) → EntryAs code t at c outer o r
-    → r ≡ e.Inside there deeper rows label → Gone code t at c outer o there deeper rows label
-gone {t = t} there deeper rows label (EntryAs.inside_at {there = there'} {deeper = deeper'} {rows = rows'} {label = label'} y n x z v s l) h =
-    let a : there' ≡ there = cc in
-    let a₁ : deeper' ≡ deeper = cc in
-    let a₂ : rows' ≡ rows = cc in
-    let a₃ : label' ≡ label = cc in
-    record { tree = y; enters = rw (a₁, a₂) at n; fit = rw a₁ at x; same = sym a₃ ∙ z; small = omega (arith, v); sits = rw a at s; slim = omega (arith, l) }
-gone there deeper rows label (EntryAs.nowhere_at n) h = absurd (let y : ◌≡◌ {A = ℕ} 0 1 = cc in omega arith)
+pub entry_nowhere : (t : Table) (outer : ℕ) (c : Cmd) (o : Open) {k : ℕ} → k ≡ o.child → child c k ≡ nowhere → (p : List Open) → leads t c outer (o ∷ p) ≡ false
+entry_nowhere t outer c o x n p = leads_nowhere t c outer o p (rw (sym x) n)
 
 -- a label set at a depth, and its mask
 pub labels_set : {t : Table} {l x : List ℕ} (j : ℕ) (v : Label) → j ≤ most_deep → v < t.n → LabelsHeld t l x → LabelsHeld t (set l j v) (set x j (mask t v))
@@ -180,61 +139,90 @@ along_end l d b h (cmd at (seq cs)) = h
 along_end l d b h (cmd at (if g c e)) = h
 along_end l d b h (cmd at (while g c)) = h
 
+-- an entry that leads nowhere
+pub lost : (t : Table) (sheet : List ℕ) (size i outer : ℕ) (c : Cmd) → i < size → ((p : List Open) → leads t c outer (entry_in sheet i ∷ p) ≡ false)
+    → leads t c outer (path_from sheet size i) ≡ false
+lost t sheet size i outer c z n = rw (path_more sheet size i z) (n (path_from sheet size (i + 1)))
+
 module _ (t : Table) (sheet : List ℕ) (size i d outer row : ℕ) (c : Cmd) (l held : List ℕ) where
-  pub arrived : (b : Bool) → i ≡ size → b ≡ takes_step c → b ≡ true → LabelsHeld t l held → get_or l d 0 ≡ outer
-      → FollowsAs t c d outer (path_from sheet size i) row l held (f.At row)
+  -- a path ends at a command that takes a step, or leads nowhere
+  pub arrived : (b : Bool) → i ≡ size → b ≡ takes_step c → LabelsHeld t l held → get_or l d 0 ≡ outer
+      → FollowsAs t c d outer (path_from sheet size i) row l held (then_some b row)
   unfolding leads
-  arrived b z q k h y =
+  arrived true z k h y =
       rw (path_none sheet size i z)
-      (FollowsAs.found {row = row}
-      (record { good = sym q ∙ k; row_is = row_end c row; labels = l; labels_held = h; along = along_end l d outer y c; same = λ j m. refl }))
+      (record { good = sym k; row_is = row_end c row; labels = l; labels_held = h; along = along_end l d outer y c; same = λ j m. refl })
+  arrived false z k h y = rw (path_none sheet size i z) (sym k)
 
-  pub no_step : (b : Bool) → i ≡ size → b ≡ takes_step c → b ≡ false → FollowsAs t c d outer (path_from sheet size i) row l held f.Bad
-  unfolding leads
-  no_step b z q k = rw (path_none sheet size i z) (FollowsAs.bad (sym q ∙ k))
+  module _ (code : List ℕ) (at : ℕ) (g : Entry) (e : EntryIs code t at c outer (entry_in sheet i) g) (k : d + g.part.deeper < length l) (y : get_or l d 0 ≡ outer) where
+    -- labels outside are kept
+    outside : (j : ℕ) → j ≤ d → get_or (set l (d + g.part.deeper) g.label) j 0 ≡ get_or l j 0
+    outside j m = go (eqb j (d + g.part.deeper)) refl
+      where
+        go : (b : Bool) → eqb j (d + g.part.deeper) ≡ b → get_or (set l (d + g.part.deeper) g.label) j 0 ≡ get_or l j 0
+        go true q =
+            let z : j ≡ d + g.part.deeper = eqb-true j (d + g.part.deeper) q in
+            let x : d ≡ j = omega arith in
+            let u : g.part.deeper ≡ 0 = omega arith in
+            rw z (get_or-set_same l (d + g.part.deeper) g.label 0 k)
+            ∙ e.same ∙ fits_flat t (entry_in sheet i).label outer g.part.deeper e.fit u ∙ sym y ∙ ap (λ (n : ℕ). get_or l n 0) x
+        go false q = get_or-set_other l (d + g.part.deeper) j g.label 0 (eqb-false j (d + g.part.deeper) q)
 
-  module _ (code : List ℕ) (at : ℕ) where
-    pub lost : {r : Entry} → i < size → EntryAs code t at c outer (entry_in sheet i) r → r ≡ e.Nowhere → FollowsAs t c d outer (path_from sheet size i) row l held f.Bad
-    lost z (EntryAs.inside_at y n x u v s m) h = absurd (let y : ◌≡◌ {A = ℕ} 0 1 = cc in omega arith)
-    lost z (EntryAs.nowhere_at n) h = rw (path_more sheet size i z) (FollowsAs.bad (n (path_from sheet size (i + 1))))
+    followed : (path : List Open) (to : ℕ) → Followed t e.part.tree (d + g.part.deeper) g.label path (row + g.part.rows) (set l (d + g.part.deeper) g.label) held to
+        → Followed t c d outer (entry_in sheet i ∷ path) row l held to
+    followed path to h =
+        let o = entry_in sheet i in
+        let kept : (j : ℕ) → j ≤ d → get_or h.labels j 0 ≡ get_or l j 0 = λ j m. h.same j (omega arith) ∙ outside j m in
+        record {
+          good = leads_on t c outer o path g.part.deeper e.part.tree e.part.enters.is e.fit ∙ rw (sym e.same) h.good;
+          row_is = h.row_is ∙ sym (e.part.enters.row o path row refl);
+          labels = h.labels;
+          labels_held = h.labels_held;
+          along = e.part.enters.along h.labels o path d outer refl (kept d (omega arith) ∙ y) (fits_flat t o.label outer g.part.deeper e.fit) (rw (sym e.same) h.along);
+          same = kept;
+        }
 
-    module _ (there deeper rows label : ℕ) (g : Gone code t at c outer (entry_in sheet i) there deeper rows label) (k : d + deeper < length l) (y : get_or l d 0 ≡ outer) where
-      -- labels outside are kept
-      outside : (j : ℕ) → j ≤ d → get_or (set l (d + deeper) label) j 0 ≡ get_or l j 0
-      outside j m = go (eqb j (d + deeper)) refl
-        where
-          go : (b : Bool) → eqb j (d + deeper) ≡ b → get_or (set l (d + deeper) label) j 0 ≡ get_or l j 0
-          go true q =
-              let z : j ≡ d + deeper = eqb-true j (d + deeper) q in
-              let x : d ≡ j = omega arith in
-              let u : deeper ≡ 0 = omega arith in
-              rw z (get_or-set_same l (d + deeper) label 0 k)
-              ∙ g.same ∙ fits_flat t (entry_in sheet i).label outer deeper g.fit u ∙ sym y ∙ ap (λ (n : ℕ). get_or l n 0) x
-          go false q = get_or-set_other l (d + deeper) j label 0 (eqb-false j (d + deeper) q)
+    further' : (path : List Open) (out : Option ℕ)
+        → FollowsAs t e.part.tree (d + g.part.deeper) g.label path (row + g.part.rows) (set l (d + g.part.deeper) g.label) held out
+        → FollowsAs t c d outer (entry_in sheet i ∷ path) row l held out
+    further' path (Some to) h = followed path to h
+    further' path None h = leads_on t c outer (entry_in sheet i) path g.part.deeper e.part.tree e.part.enters.is e.fit ∙ rw (sym e.same) h
 
-      followed : (path : List Open) (to : ℕ) → Followed t g.tree (d + deeper) label path (row + rows) (set l (d + deeper) label) held to
-          → Followed t c d outer (entry_in sheet i ∷ path) row l held to
-      followed path to h =
-          let o = entry_in sheet i in
-          let kept : (j : ℕ) → j ≤ d → get_or h.labels j 0 ≡ get_or l j 0 = λ j m. h.same j (omega arith) ∙ outside j m in
-          record {
-            good = leads_on t c outer o path deeper g.tree g.enters.is g.fit ∙ rw (sym g.same) h.good;
-            row_is = h.row_is ∙ sym (g.enters.row o path row refl);
-            labels = h.labels;
-            labels_held = h.labels_held;
-            along = g.enters.along h.labels o path d outer refl (kept d (omega arith) ∙ y) (fits_flat t o.label outer deeper g.fit) (rw (sym g.same) h.along);
-            same = kept;
-          }
+    pub further : (out : Option ℕ) → i < size
+        → FollowsAs t e.part.tree (d + g.part.deeper) g.label (path_from sheet size (i + 1)) (row + g.part.rows) (set l (d + g.part.deeper) g.label) held out
+        → FollowsAs t c d outer (path_from sheet size i) row l held out
+    further out z h = rw (path_more sheet size i z) (further' (path_from sheet size (i + 1)) out h)
 
-      further' : (path : List Open) (out : Found) → FollowsAs t g.tree (d + deeper) label path (row + rows) (set l (d + deeper) label) held out
-          → FollowsAs t c d outer (entry_in sheet i ∷ path) row l held out
-      further' path out (FollowsAs.found {row = to} h) = FollowsAs.found (followed path to h)
-      further' path out (FollowsAs.bad h) =
-          FollowsAs.bad (leads_on t c outer (entry_in sheet i) path deeper g.tree g.enters.is g.fit ∙ rw (sym g.same) h)
+-- Following a path from a command of a block: what is left of it from the i-th entry on decides what comes of the whole.
+pub record Led (code sheet : List ℕ) (t : Table) (size : ℕ) (c : Cmd) (l : List Label) (top i at d outer row : ℕ) (held : List ℕ) : Type 0 where
+  pub command : Cmd
+  pub sits : Sits code command at
+  pub labels : List Label
+  pub labels_held : LabelsHeld t labels held
+  pub here : get_or labels d 0 ≡ outer
+  pub on : (now : List ℕ) (out : Option ℕ) → FollowsAs t command d outer (path_from sheet size i) row labels now out
+      → FollowsAs t c 0 top (path_from sheet size 0) 0 l now out
 
-      pub further : (out : Found) → i < size → FollowsAs t g.tree (d + deeper) label (path_from sheet size (i + 1)) (row + rows) (set l (d + deeper) label) held out
-          → FollowsAs t c d outer (path_from sheet size i) row l held out
-      further out z h = rw (path_more sheet size i z) (further' (path_from sheet size (i + 1)) out h)
+module _ {code : List ℕ} (sheet : List ℕ) {t : Table} (size : ℕ) {c : Cmd} {l : List ℕ} {top : ℕ} {i at d outer row : ℕ} {now : List ℕ}
+    (x : Led code sheet t size c l top i at d outer row now) where
+  pub led_next : i < size → (g : Entry) (e : EntryIs code t at x.command outer (entry_in sheet i) g) → d + g.part.deeper ≤ most_deep
+      → Led code sheet t size c l top (i + 1) g.part.there (d + g.part.deeper) g.label (row + g.part.rows) (set now (d + g.part.deeper) (mask t g.label))
+  led_next z g e m =
+      let k : d + g.part.deeper < length x.labels = omega (arith, x.labels_held.room) in
+      record {
+        command = e.part.tree;
+        sits = e.part.sits;
+        labels = set x.labels (d + g.part.deeper) g.label;
+        labels_held = labels_set _ _ m e.small x.labels_held;
+        here = get_or-set_same x.labels _ _ 0 k;
+        on = λ last out f. x.on last out (further t sheet size i d outer row x.command x.labels last code at g e k x.here out z f);
+      }
+
+  pub led_astray : i < size → ((p : List Open) → leads t x.command outer (entry_in sheet i ∷ p) ≡ false) → FollowsAs t c 0 top (path_from sheet size 0) 0 l now None
+  led_astray z n = x.on now None (lost t sheet size i outer x.command z n)
+
+  pub led_there : (b : Bool) → i ≡ size → b ≡ takes_step x.command → FollowsAs t c 0 top (path_from sheet size 0) 0 l now (then_some b row)
+  led_there b z k = x.on now (then_some b row) (arrived t sheet size i d outer row x.command x.labels now b z k x.labels_held x.here)
 
 -- Labels by depth, as principals: those up to the j-th.
 pub names_more : {t : Table} {l held : List ℕ} (names : List ℕ) (j : ℕ) (x : Label) → LabelsHeld t l held → length names ≡ most_deep + 1 → j ≤ most_deep

@@ -13,17 +13,14 @@ use Rattle.values.specs.Result.{ok}
 use Rattle.syntax.specs.Code.{most_deep, read_block}
 use Rattle.syntax.specs.Rows.{between, size, size_body, size_all}
 use Rattle.calculus.specs.Calculus.{choose}
-use Rattle.pausing.specs.Paths.{Open}
 use Rattle.pausing.specs.RowPaths.{path_to, path_body}
 use Rattle.paths.specs.CodeLayout.{Levels, LevelsBody, SomeExpr, SomeCmd, SkipsExpr, Skips, Stepping, SteppingBody, SteppingAll}
-use Rattle.paths.specs.SheetPaths.{Traced, Seeks, SearchAs}
+use Rattle.paths.specs.SheetPaths.{Traced, Seeks, Past}
 use Rattle.paths.specs.declared.walking.Extent.{Extent}
-use Rattle.paths.specs.declared.trail.Search.{Search}
-use Rattle.paths.specs.declared.trail.Search.TheVariants as s
 use Rattle.paths.proofs.CodeLayout.{by_if, by_while_byte, by_other}
 use Rattle.paths.proofs.CodeReadBlock.{block_lies, block_levels}
 use Rattle.paths.proofs.CodeExtents.{jump_none, jump_one, if_guard, while_guard, while_span, span_within}
-use Rattle.paths.proofs.TraceSearch.{Past, search_past, Has}
+use Rattle.paths.proofs.TraceSearch.{Has}
 
 -- a row that takes a step is one of the command's
 module _ (g : Expr) (c d : Cmd) (i : ℕ) where
@@ -129,11 +126,11 @@ pub record Elsewhere (code : List ℕ) (c : Cmd) (at i len m : ℕ) (old new : L
   pub past : (row : ℕ) → row ≡ i - (e.rows + 2) → size second ≤ row → size c ≤ i
 
 module _ (code : List ℕ) (at i len m : ℕ) where
-  pub elsewhere : {old new : List ℕ} {p : Cmd → List Open} {r : Search} {e : Extent} → get_or code at 0 ≡ 0x23 → (i ≡ 0 → ⊥) → SkipsExpr code (at + 1) m
-      → ((y : Cmd) → Seeks code y m (i - 1) (len + 1) → SearchAs code y m (i - 1) len (p y) old new r) → r ≡ s.Passed e → (c : Cmd) → Seeks code c at i len → Elsewhere code c at i len m old new e
-  elsewhere {e = e} b z f t y c h =
+  pub elsewhere : {old new : List ℕ} {e : Extent} → get_or code at 0 ≡ 0x23 → (i ≡ 0 → ⊥) → SkipsExpr code (at + 1) m
+      → ((y : Cmd) → Seeks code y m (i - 1) (len + 1) → Past code y m (i - 1) old new e) → (c : Cmd) → Seeks code c at i len → Elsewhere code c at i len m old new e
+  elsewhere {e = e} b z f t c h =
       let v = branches code at i len m b z f c h in
-      let q = search_past e (t v.first v.seeks) y in
+      let q = t v.first v.seeks in
       let w = span_within code m e.end e.rows q.skips (stands v.seeks) in
       record {
         second = v.second;
@@ -183,13 +180,13 @@ module _ (code : List ℕ) (at i len : ℕ) where
       c h.sits.lies h.steps h.levels
 
   -- the body does not have the row, and so the while does not
-  pub further_on : (m : ℕ) {old new : List ℕ} {p : Cmd → List Open} {r : Search} {e : Extent} → get_or code at 0 ≡ 0x24 → (i ≡ 0 → ⊥) → SkipsExpr code (at + 1) m
-      → ((y : Cmd) → Seeks code y m (i - 1) (len + 1) → SearchAs code y m (i - 1) len (p y) old new r) → r ≡ s.Passed e → (c : Cmd) → Seeks code c at i len
-      → Skips code m e.end e.rows × (size c ≤ i) × (new ≡ old)
-  further_on m {e = e} b z f t y c h =
+  pub further_on : (m : ℕ) {old new : List ℕ} {e : Extent} → get_or code at 0 ≡ 0x24 → (i ≡ 0 → ⊥) → SkipsExpr code (at + 1) m
+      → ((y : Cmd) → Seeks code y m (i - 1) (len + 1) → Past code y m (i - 1) old new e) → (c : Cmd) → Seeks code c at i len
+      → Past code c at i old new (record { end = e.end; rows = 1 + e.rows + 1 })
+  further_on m b z f t c h =
       let v = inner m b z f c h in
-      let q = search_past e (t v.body v.seeks) y in
-      (q.skips, v.past q.past, q.same)
+      let q = t v.body v.seeks in
+      record { skips = body_span code at b m f _ _ q.skips; past = v.past q.past; same = q.same }
 
   -- the guard's own row
   pub if_here : get_or code at 0 ≡ 0x23 → i ≡ 0 → (l : List Label) (d : ℕ) (c : Cmd) → Seeks code c at i len → (i < size c) × (path_to l c d i ≡ [])

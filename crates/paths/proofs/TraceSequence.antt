@@ -112,6 +112,5 @@ left_first code here n i end total h =
 pub left_next : (code : List ℕ) (here n k i row end total next rows : ℕ) → k < n → rows ≤ row → row ≤ i → Skips code here next rows
     → Left code here (n - k) (i - row) end total → Left code next (n - (k + 1)) (i - (row - rows)) end total
 left_next code here n k i row end total next rows m h z f l =
-    let a : n - k - 1 ≡ n - (k + 1) = omega arith in
     let b : i - row + rows ≡ i - (row - rows) = omega arith in
-    rw (a, b) at (left_on code here (n - k) (i - row) end total next rows (omega arith) f l)
+    rw b at (left_on code here (n - k) (i - row) end total next rows (n - (k + 1)) (omega arith) f l)

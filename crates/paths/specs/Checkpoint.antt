@@ -1,5 +1,5 @@
 -- Between a row of a block and a pause sheet: what taking a block up along a sheet's path, and writing a sheet, ensure. Assumes nothing.
-use Rattle.std.specs.Prelude.{ℕ, ◌+◌, ◌≡◌, Bool, true, false, List, length, replicate, leb}
+use Rattle.std.specs.Prelude.{ℕ, ◌+◌, ◌≡◌, Bool, true, false, List, length, replicate, leb, Option, MatchOption}
 use Rattle.lattice.specs.Tests.{◌and◌}
 use Rattle.lattice.specs.declared.Table.{Table}
 use Rattle.lattice.specs.Order.{Label, top, good}
@@ -12,8 +12,6 @@ use Rattle.pausing.specs.Stretches.{standing, pause_width, most_open, pause_shee
 use Rattle.pausing.specs.RowPaths.{LabelsHeld}
 use Rattle.pausing.specs.RowPaths.{path_to, row_to, Along}
 use Rattle.paths.specs.CodeLayout.{Stepping}
-use Rattle.paths.specs.declared.checkpoint.Found.{Found}
-use Rattle.paths.specs.declared.checkpoint.Found.TheVariants as f
 
 -- the part of 19 that is judged of a block and a pause sheet: the path's length, the unused bytes, and where the path leads
 unfoldable pub takes_up : Table → Cmd → List ℕ → Bool
@@ -28,9 +26,8 @@ pub record TakenUp (t : Table) (c : Cmd) (sheet held : List ℕ) (row : ℕ) : T
   pub along : Along labels c 0 (top t) (path_in sheet)
 
 -- what `resume` answers: the row, or that there is none
-pub data Resumes (t : Table) (c : Cmd) (sheet held : List ℕ) : Found → Type 0 where
-  found : {row : ℕ} → TakenUp t c sheet held row → Resumes t c sheet held (f.At row)
-  bad : takes_up t c sheet ≡ false → Resumes t c sheet held f.Bad
+abbrev pub Resumes : (t : Table) (c : Cmd) (sheet held : List ℕ) → Option ℕ → Type 0
+Resumes t c sheet held r = MatchOption r (takes_up t c sheet ≡ false) (λ row. TakenUp t c sheet held row)
 
 -- what it needs: code that was read, a good order table, a sheet of its size, and the top's mask as each label
 pub record CanResume (code sheet : List ℕ) (t : Table) (held : List ℕ) : Type 0 where

@@ -1,5 +1,5 @@
 -- Where expressions and commands lie in a block's code, from byte to byte; how deep commands nest; which rows take a step. Assumes nothing.
-use Rattle.std.specs.Prelude.{ℕ, zero, suc, ◌+◌, ◌-◌, ◌≤◌, ◌<◌, ◌≡◌, List, length, get_or}
+use Rattle.std.specs.Prelude.{ℕ, zero, suc, ◌+◌, ◌-◌, ◌≤◌, ◌<◌, ◌≡◌, List, length, get_or, Option, None, Some}
 use Rattle.syntax.specs.Syntax.{Expr, literal, read, operation, Cmd, cmd, Body, skip, assign, seq, if, while, Cmds, nil, cons}
 use Rattle.values.specs.Result.{ok}
 use Rattle.syntax.specs.Code.{read_block}
@@ -110,10 +110,10 @@ Skips code at next rows = (c : Cmd) (end : ℕ) → Lies code c at end → (next
 abbrev pub SkipsAll : (code : List ℕ) (at n next rows : ℕ) → Type 0
 SkipsAll code at n next rows = (end total : ℕ) → Left code at n 0 end total → (next ≡ end) × (rows ≡ total)
 
--- where commands that have so many rows end, if they have none; else 0
-unfoldable pub blank_end : ℕ → ℕ → ℕ
-blank_end zero end = end
-blank_end (suc n) end = 0
+-- where commands that have so many rows end, if they have none
+unfoldable pub blank_end : ℕ → ℕ → Option ℕ
+blank_end zero end = Some end
+blank_end (suc n) end = None
 
 -- The i-th row of a command is an assignment's or a guard's, and no jump.
 unfoldable mutual

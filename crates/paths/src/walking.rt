@@ -1,4 +1,6 @@
 // Walking the code of a block that was read: where expressions and commands end, how many rows they have, and their parts.
+// `code` and `at` stay two parameters: each call goes on at another place, so a struct of the two would be built anew at every call, and what it
+// asks (`SomeCmd`, `SomeCmds` or `SomeExpr`) shown there as it is now.
 ghost use Rattle.std.specs.Prelude.{◌≡◌, ℕ, ◌≤◌, length, get_or};
 ghost use Rattle.values.specs.Result.{ok};
 ghost use Rattle.syntax.specs.Code.{read_block};
@@ -21,20 +23,10 @@ pub struct Extent {
 
 // A child of a command: where it lies, inside how many guards of the command, and how many rows after the command's first row it starts.
 #[derive(Clone, Copy)]
-pub enum Part {
-    Inside {
-        there: usize,
-        deeper: usize,
-        rows: usize,
-    },
-    Nowhere,
-}
-
-// A byte as a place; that it fits is known of an argument's type, not of a slice's element.
-pub fn wide8(x: u8) -> usize
-    ensures { result ≡ x }
-{
-    x as usize
+pub struct Part {
+    pub there: usize,
+    pub deeper: usize,
+    pub rows: usize,
 }
 
 // Where the expression at `at` ends.
@@ -75,7 +67,7 @@ pub(crate) fn span_at(code: &[u8], at: usize) -> Extent
             let end = skip_expr(code, value);
             Extent { end, rows: 1 }
         }
-        Spot::SEQUENCE => span_all(code, at + 2, wide8(code[at + 1])),
+        Spot::SEQUENCE => span_all(code, at + 2, usize::from(code[at + 1])),
         Spot::IF => span_if(code, at),
         _ => {
             let body = skip_expr(code, at + 1);
@@ -97,10 +89,9 @@ fn span_if(code: &[u8], at: usize) -> Extent
     let part = skip_expr(code, at + 1);
     let first = span_at(code, part);
     let second = span_at(code, first.end);
-    let more = second.rows;
     Extent {
         end: second.end,
-        rows: 1 + first.rows + jump_rows(more) + more,
+        rows: 1 + first.rows + jump_rows(second.rows) + second.rows,
     }
 }
 
@@ -110,16 +101,14 @@ fn span_all(code: &[u8], at: usize, n: usize) -> Extent
     requires { SomeCmds code.now at n }
     ensures { SkipsAll code.now at n result.end result.rows }
 {
-    let mut here = at;
-    let mut left = n;
-    let mut rows: usize = 0;
-    while 0 < left {
-        let next = span_at(code, here);
-        here = next.end;
-        rows = rows + next.rows;
-        left = left - 1;
+    let mut end = at;
+    let mut rows = 0;
+    for _ in 0..n {
+        let next = span_at(code, end);
+        end = next.end;
+        rows += next.rows;
     }
-    Extent { end: here, rows }
+    Extent { end, rows }
 }
 
 // The rows of the block whose code stands in a programme sheet from `start` up to `end`.
@@ -127,40 +116,33 @@ pub fn rows_in(sheet: &[u8], start: usize, end: usize) -> usize
     requires { (start ≤ end) × (end ≤ length sheet.now) × SomeBlock (lent sheet.now start end) }
     ensures { (slots : ℕ) (c : Cmd) → read_block slots (lent sheet.now start end) ≡ ok c → result ≡ size c }
 {
-    let whole = span_at(&sheet[start..end], 0);
-    whole.rows
+    span_at(&sheet[start..end], 0).rows
 }
 
-// Where the command at `at` ends if it has no rows; else 0. Nothing is walked past the first row.
+// Where the command at `at` ends, if it has no rows. Nothing is walked past the first row.
 #[cycle(blank_all_blank_end)]
-fn blank_end(code: &[u8], at: usize) -> usize
+fn blank_end(code: &[u8], at: usize) -> Option<usize>
     requires { SomeCmd code.now at }
     ensures { (c : Cmd) (end : ℕ) → Lies code.now c at end → result ≡ blank_end (size c) end }
 {
     match code[at] {
-        Spot::SKIP => at + 1,
-        Spot::SEQUENCE => blank_all(code, at + 2, wide8(code[at + 1])),
-        _ => 0,
+        Spot::SKIP => Some(at + 1),
+        Spot::SEQUENCE => blank_all(code, at + 2, usize::from(code[at + 1])),
+        _ => None,
     }
 }
 
 // The same of the n commands from `at` on.
 #[cycle(blank_all_blank_end)]
-fn blank_all(code: &[u8], at: usize, n: usize) -> usize
+fn blank_all(code: &[u8], at: usize, n: usize) -> Option<usize>
     requires { SomeCmds code.now at n }
     ensures { (end total : ℕ) → Left code.now at n 0 end total → result ≡ blank_end total end }
 {
-    let mut here = at;
-    let mut left = n;
-    while 0 < left {
-        let next = blank_end(code, here);
-        if next == 0 {
-            return 0;
-        }
-        here = next;
-        left = left - 1;
+    let mut end = at;
+    for _ in 0..n {
+        end = blank_end(code, end)?;
     }
-    here
+    Some(end)
 }
 
 // The rows between the parts of an if whose else-part is the command at `at`.
@@ -168,69 +150,57 @@ fn jump_before(code: &[u8], at: usize) -> usize
     requires { SomeCmd code.now at }
     ensures { (c : Cmd) (end : ℕ) → Lies code.now c at end → result ≡ between (size c) }
 {
-    let end = blank_end(code, at);
-    if end == 0 { 1 } else { 0 }
+    match blank_end(code, at) {
+        Some(_) => 0,
+        None => 1,
+    }
 }
 
 // The k-th part of the if at `at`, from 0.
-fn part_at(code: &[u8], at: usize, k: usize) -> Part
+fn part_at(code: &[u8], at: usize, k: usize) -> Option<Part>
     requires { SomeCmd code.now at × (get_or code.now at 0 ≡ 0x23) }
     ensures { (c : Cmd) → Sits code.now c at → PartAs code.now at c k result }
 {
     let there = skip_expr(code, at + 1);
-    if k == 0 {
-        return Part::Inside {
+    match k {
+        0 => Some(Part {
             there,
             deeper: 1,
             rows: 1,
-        };
-    }
-    if k == 1 {
-        let first = span_at(code, there);
-        let jump = jump_before(code, first.end);
-        Part::Inside {
-            there: first.end,
-            deeper: 1,
-            rows: 1 + first.rows + jump,
+        }),
+        1 => {
+            let first = span_at(code, there);
+            Some(Part {
+                there: first.end,
+                deeper: 1,
+                rows: 1 + first.rows + jump_before(code, first.end),
+            })
         }
-    } else {
-        Part::Nowhere
+        _ => None,
     }
 }
 
 // The k-th child of the command at `at`, from 0.
-pub(crate) fn child_at(code: &[u8], at: usize, k: usize) -> Part
+pub(crate) fn child_at(code: &[u8], at: usize, k: usize) -> Option<Part>
     requires { SomeCmd code.now at }
     ensures { (c : Cmd) → Sits code.now c at → PartAs code.now at c k result }
 {
     match code[at] {
-        Spot::SEQUENCE => {
-            let count = wide8(code[at + 1]);
-            if k < count {
-                let before = span_all(code, at + 2, k);
-                Part::Inside {
-                    there: before.end,
-                    deeper: 0,
-                    rows: before.rows,
-                }
-            } else {
-                Part::Nowhere
-            }
+        Spot::SEQUENCE if k < usize::from(code[at + 1]) => {
+            let before = span_all(code, at + 2, k);
+            Some(Part {
+                there: before.end,
+                deeper: 0,
+                rows: before.rows,
+            })
         }
         Spot::IF => part_at(code, at, k),
-        Spot::WHILE => {
-            if k == 0 {
-                let there = skip_expr(code, at + 1);
-                Part::Inside {
-                    there,
-                    deeper: 1,
-                    rows: 1,
-                }
-            } else {
-                Part::Nowhere
-            }
-        }
-        _ => Part::Nowhere,
+        Spot::WHILE if k == 0 => Some(Part {
+            there: skip_expr(code, at + 1),
+            deeper: 1,
+            rows: 1,
+        }),
+        _ => None,
     }
 }
 
@@ -239,9 +209,6 @@ pub(crate) fn takes_step(code: &[u8], at: usize) -> bool
     requires { SomeCmd code.now at }
     ensures { (c : Cmd) (end : ℕ) → Lies code.now c at end → result ≡ takes_step c }
 {
-    match code[at] {
-        Spot::SKIP => false,
-        Spot::SEQUENCE => false,
-        _ => true,
-    }
+    let byte = code[at];
+    byte != Spot::SKIP && byte != Spot::SEQUENCE
 }

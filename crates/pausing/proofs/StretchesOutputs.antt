@@ -19,7 +19,7 @@ use Rattle.values.proofs.BytesNumbers.{number_lt}
 use Rattle.values.proofs.Bytes.{number_part, value_read}
 use Rattle.store.specs.Sheet.{most_slots, slots_bytes}
 use Rattle.calculus.specs.Calculus.{State, contents}
-use Rattle.calculus.specs.Counts.{total, count_at}
+use Rattle.store.specs.Counts.{total, count_at}
 use Rattle.pausing.specs.Stretches.{slot_in, store_in, output_good}
 use Rattle.calculus.proofs.ValueWellFormed.{formed_cases}
 use Rattle.exactness.proofs.JournalTells.{value_part, count_part}

@@ -13,7 +13,7 @@ use Rattle.values.specs.Value.{well_formed, empty_slot}
 use Rattle.store.specs.Sheet.{Tables, Opening, most_slots, store_sheet}
 use Rattle.syntax.specs.Sheet.{Block, programme_sheet}
 use Rattle.calculus.specs.Calculus.{Store, State}
-use Rattle.calculus.specs.Counts.{total}
+use Rattle.store.specs.Counts.{total}
 use Rattle.pausing.specs.Paths.{Open, leads}
 use Rattle.pausing.specs.Stretches.{Position}
 use Rattle.calculus.proofs.CalculusInvariant.{Slots}

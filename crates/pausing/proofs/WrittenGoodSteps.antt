@@ -26,7 +26,7 @@ use Rattle.syntax.specs.Syntax.{Op, sum, difference, less, equal, Expr, Literals
 use Rattle.calculus.specs.Calculus.{Setting, Store, State, Write, contents, truth_of, gives, permit, assignment, counted, written, entry_of, recorded, performed}
 use Rattle.calculus.specs.Blocks.{start}
 use Rattle.exactness.specs.JournalTells.{namings}
-use Rattle.calculus.specs.Counts.{total}
+use Rattle.store.specs.Counts.{total}
 use Rattle.calculus.proofs.CalculusOperations.{gives_formed}
 use Rattle.calculus.proofs.CalculusInvariant.{Slots, written_slots, eval_gives}
 use Rattle.exactness.proofs.JournalTellsWalks.{replayed, Each, empty, next, counts_grow, total_add, total_zero, namings_total}

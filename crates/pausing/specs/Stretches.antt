@@ -12,7 +12,7 @@ use Rattle.syntax.specs.Sheet.{Block, programme_sheet}
 use Rattle.calculus.specs.Rules.{RuleSet, rules_of}
 use Rattle.calculus.specs.Calculus.{Limits, limits, Store, State}
 use Rattle.calculus.specs.Blocks.{halt_in, halt_answer, setting, most_budget, start}
-use Rattle.calculus.specs.Counts.{total, count_at}
+use Rattle.store.specs.Counts.{total, count_at}
 use Rattle.pausing.specs.Paths.{Open, Pause, take_up, leads}
 
 -- Where a run stands between two stretches: the block and the path that are next, and the state there

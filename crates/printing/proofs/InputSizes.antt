@@ -1,7 +1,8 @@
 -- The sizes in the store sheet of the printing program's input. Serves `store_length`, `slots_of` and `put_slots`. Assumes nothing.
 use Prim.Native.Nat.{ℕ, ◌+◌, ◌*◌, ◌≤◌, ◌<◌, min}
-use mathlib.Core.Path.{◌≡◌, ◌∙◌}
+use mathlib.Core.Path.{◌≡◌}
 use mathlib.Core.List.{List}
+use native.Mathlib.Nat.{min_comm}
 use native.Mathlib.Omega.{arith}
 use lib.ListN.{length, get_or}
 use borrow.Author.Tests.{lt-ltb, le-ltb, le-leb, lt-leb}
@@ -26,15 +27,9 @@ module _ (s : List ℕ) where
     abbrev said : ℕ
     said = values_at n m + value_width * m
 
-    shorter : min (length s) said ≡ store_length s
+    pub shorter : min said (length s) ≡ store_length s
     unfolding store_length value_width_in
-    shorter = rw (store_length, le-ltb (length s) sizes_width h, p, q)
-
-    pub as_said : said < length s → said ≡ store_length s
-    as_said l = let e : said ≡ min (length s) said = omega arith in e ∙ shorter
-
-    pub as_there : length s ≤ said → length s ≡ store_length s
-    as_there l = let e : length s ≡ min (length s) said = omega arith in e ∙ shorter
+    shorter = rw (store_length, le-ltb (length s) sizes_width h, p, q) (min_comm _ _)
 
 -- the slots of an end store
 pub few : (s : List ℕ) (m : ℕ) → m ≡ m_of s → m ≤ most_slots → m ≡ slots_of s

@@ -1,11 +1,13 @@
 -- Laws of what is printed, part by part, with its first word and the bytes that are read. Serves `print_run` and its parts. Assumes nothing.
-use Prim.Native.Nat.{ℕ, ◌+◌, ◌-◌, ◌*◌, ◌≤◌, ◌<◌}
+use Prim.Native.Nat.{ℕ, ◌+◌, ◌-◌, ◌*◌, ◌≤◌, ◌<◌, min}
 use mathlib.Core.Path.{◌≡◌, refl, sym, ap, ◌∙◌}
 use mathlib.Core.Bool.{Bool, true, false}
 use mathlib.Core.List.{List}
+use native.Mathlib.Nat.{min_comm}
 use native.Mathlib.Omega.{arith}
-use lib.ListN.{length, get_or, take, drop, replicate, length-drop, length-replicate, replicate-append-replicate}
-use lib.Seq.{take_at, take_all, take-take}
+use Rattle.std.proofs.lemmas.List.{take_min}
+use lib.ListN.{length, get_or, take, drop, replicate, length-replicate, replicate-append-replicate}
+use lib.Seq.{take_at, take-take}
 use lib.Dec.{ltb}
 use borrow.Author.Tests.{lt-ltb, le-ltb}
 use Rattle.values.specs.Result.{unplaced}
@@ -16,17 +18,15 @@ use Rattle.lines.specs.Decimal.{ascii}
 use Rattle.lines.specs.Lines.{answer_line}
 use Rattle.lines.proofs.Lines.{starts_line, starts_lines}
 use Rattle.calculus.specs.Run.{call}
-use Rattle.printing.specs.PrintedText.{most_input, budget_width, head_width, store_length, slots_of, lent, most_entries, call_lines, printed_run, printed_sheets, printed_read, printed}
+use Rattle.printing.specs.PrintedText.{most_input, budget_width, head_width, slots_of, lent, most_entries, call_lines, printed_run, printed_sheets, printed_read, printed}
+use Rattle.printing.specs.Requests.{Asked, run_of}
+use Rattle.printing.specs.declared.Request.{Request}
 
 take_replicate : (n k : ℕ) → n ≤ k → take {A = ℕ} n (replicate k 0) ≡ replicate n 0
 take_replicate n k h =
     let e : n + (k - n) ≡ k = omega arith in
     ap (λ (l : List ℕ). take n l) (sym (replicate-append-replicate n (k - n) 0 ∙ ap (λ (i : ℕ). replicate i 0) e))
     ∙ take_at (replicate n 0) (replicate (k - n) 0) n (length-replicate n 0)
-
--- what a slice lends from a place on
-pub from_there : (s : List ℕ) (n : ℕ) → take (length s - n) (drop n s) ≡ drop n s
-from_there s n = take_all (length s - n) (drop n s) (omega (arith, length-drop n s))
 
 -- the output that a run is lent is a part of the room for any
 pub part_lent : (m : ℕ) → m ≤ most_slots → take (slot_width * m) (lent most_slots) ≡ lent m
@@ -42,29 +42,19 @@ pub run_lines : (rule budget : ℕ) (store programme old : List ℕ) (slots : �
 unfolding printed_run
 run_lines rule budget store programme old slots p q = rw (q, length_lent slots, p) refl
 
-pub cut_sheets : (rule budget : ℕ) (s programme : List ℕ) (cut : ℕ) → cut ≡ store_length s → programme ≡ drop cut s
-    → printed_run rule budget (take cut s) programme ≡ printed_sheets rule budget s
-unfolding printed_sheets
-cut_sheets rule budget s programme cut p q = rw (q, p) refl
-
 module _ (s : List ℕ) where
   pub no_head : length s < head_width → answer_line (unplaced 1) ≡ printed_read s
   unfolding printed_read
   no_head h = rw (printed_read, lt-ltb (length s) head_width h)
 
-  pub with_head : head_width ≤ length s → (budget : ℕ) (rest : List ℕ) → budget ≡ number_at budget_width s 1 → rest ≡ drop head_width s
-      → printed_sheets (get_or s 0 0) budget rest ≡ printed_read s
-  unfolding printed_read
-  with_head h budget rest p q = rw (printed_read, le-ltb (length s) head_width h, p, q) refl
+  pub with_head : (r : Request) → Asked s r → run_of r ≡ printed_read s
+  unfolding printed_read printed_sheets
+  with_head r a = rw (printed_read, le-ltb (length s) head_width a.head, a.rule, a.budget, a.store, a.programme) refl
 
   -- the bytes that are read: all, or the first
-  pub all_bytes : (n : ℕ) → length s ≤ most_input → n ≡ length s → printed_read (take n s) ≡ printed s
+  pub first_bytes : (n : ℕ) → n ≡ min (length s) most_input → printed_read (take n s) ≡ printed s
   unfolding printed
-  all_bytes n h p = ap printed_read (take_all n s (omega arith) ∙ sym (take_all most_input s h))
-
-  pub first_bytes : (n : ℕ) → n ≡ most_input → printed_read (take n s) ≡ printed s
-  unfolding printed
-  first_bytes n p = ap (λ (k : ℕ). printed_read (take k s)) p
+  first_bytes n p = ap printed_read (rw (p, min_comm) (take_min most_input s))
 
 pub bytes_read : (s : List ℕ) → printed (take most_input s) ≡ printed s
 unfolding printed

@@ -1,3 +1,4 @@
 pub mod PrintedText
 pub mod Examples
 pub mod Promises
+pub mod Requests

@@ -1,49 +1,10 @@
 // A run that is lent a journal: the first entries of an array of its own.
-ghost use Rattle.std.specs.Prelude.{◌≡◌, ◌≤◌, min, length};
+ghost use Rattle.std.specs.Prelude.{◌≡◌, min, length};
 ghost use Rattle.calculus.specs.Run.{call, answer, output};
 ghost use Rattle.printing.specs.PrintedText.{most_entries};
 
 use super::Input;
 use store::{Answer, Entry, Value};
-
-// A run that is lent so many entries.
-fn run_with<'s, 'p, 'o>(
-    store: &'s [u8],
-    programme: &'p [u8],
-    rule: u32,
-    budget: u32,
-    entries: usize,
-    out: &'o mut [u8],
-) -> Answer
-    requires { entries ≤ most_entries }
-    ensures { (result ≡ answer (call store.now programme.now rule budget (length out.old) entries))
-        × (out.new ≡ output (call store.now programme.now rule budget (length out.old) entries) out.old) }
-{
-    let none = Value {
-        kind: 0,
-        payload: 0,
-    };
-    let empty = Entry {
-        block: 0,
-        offset: 0,
-        slot: 0,
-        old: none,
-        new: none,
-    };
-    let mut journal = [empty; Input::ENTRIES];
-    runner::run(store, programme, rule, budget, out, &mut journal[..entries])
-}
-
-// So many entries, but no more than there are.
-fn at_most(entries: usize) -> usize
-    ensures { result ≡ min entries most_entries }
-{
-    if entries < Input::ENTRIES {
-        entries
-    } else {
-        Input::ENTRIES
-    }
-}
 
 // A run that is lent so many entries, but no more than there are. What they hold after it is dropped.
 pub fn run_lent(
@@ -57,6 +18,18 @@ pub fn run_lent(
     ensures { (result ≡ answer (call store.now programme.now rule budget (length out.old) (min entries most_entries)))
         × (out.new ≡ output (call store.now programme.now rule budget (length out.old) (min entries most_entries)) out.old) }
 {
-    let lent = at_most(entries);
-    run_with(store, programme, rule, budget, lent, out)
+    let none = Value {
+        kind: 0,
+        payload: 0,
+    };
+    let empty = Entry {
+        block: 0,
+        offset: 0,
+        slot: 0,
+        old: none,
+        new: none,
+    };
+    let mut journal = [empty; Input::ENTRIES];
+    let lent = entries.min(Input::ENTRIES);
+    runner::run(store, programme, rule, budget, out, &mut journal[..lent])
 }

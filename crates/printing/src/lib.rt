@@ -3,16 +3,16 @@
 
 mod lending;
 
-ghost use Rattle.std.specs.Prelude.{◌≡◌, ◌≤◌, length};
-ghost use Rattle.store.specs.Sheet.{most_slots};
+ghost use Rattle.std.specs.Prelude.{◌≡◌, ◌<◌, ◌≤◌, length, MatchOption};
+ghost use Rattle.store.specs.Sheet.{most_slots, n_of, m_of};
 ghost use Rattle.lines.specs.PutText.{Put, Begins, text_room};
-ghost use Rattle.calculus.specs.Run.{call};
-ghost use Rattle.printing.specs.PrintedText.{store_length, slots_of, lent, most_entries, call_lines, printed_run, printed_sheets, printed_read, printed};
+ghost use Rattle.printing.specs.PrintedText.{head_width, store_length, slots_of, printed_read, printed};
+ghost use Rattle.printing.specs.Requests.{Asked, run_of};
 
 pub use lending::run_lent;
 pub use lines::{Text, print_answer};
 use lines::{put_answer, put_lines};
-use store::{Answer, Opened, Value};
+use store::{Answer, Opened, Refusal, Value};
 
 // The most bytes of input that are read, and those before the store sheet: the rule byte and the budget.
 #[derive(Drop)]
@@ -30,6 +30,16 @@ impl Input {
     pub const ENTRIES: usize = 512;
 }
 
+// The sizes that a store sheet says: its principals and its slots. They are of one byte and of two, so a cast loses nothing.
+fn sizes_of(sheet: &[u8]) -> (usize, usize)
+    ensures values { (result.0 ≡ n_of sheet.now) × (result.1 ≡ m_of sheet.now) }
+    ensures small { (result.0 < 256) × (result.1 < 65536) }
+{
+    let n = store::number_at(sheet, 0, 1) as usize;
+    let m = store::number_at(sheet, 1, 2) as usize;
+    (n, m)
+}
+
 // How many of the bytes after the rule and the budget are the store sheet.
 fn store_length(rest: &[u8]) -> usize
     ensures { (result ≡ store_length rest.now) × (result ≤ length rest.now) }
@@ -38,10 +48,9 @@ fn store_length(rest: &[u8]) -> usize
     if size < Opened::SIZES {
         return size;
     }
-    let n = store::number_at(rest, 0, 1) as usize;
-    let m = store::number_at(rest, 1, 2) as usize;
+    let (n, m) = sizes_of(rest);
     let said = Opened::SIZES + Opened::MASK * n + m + Value::WIDTH * m;
-    if said < size { said } else { size }
+    said.min(size)
 }
 
 // How many slots the end store has, where there is one.
@@ -49,61 +58,56 @@ fn store_length(rest: &[u8]) -> usize
 fn slots_of(sheet: &[u8]) -> usize
     ensures { (result ≡ slots_of sheet.now) × (result ≤ most_slots) }
 {
-    let said = store::number_at(sheet, 1, 2) as usize;
+    let (_, said) = sizes_of(sheet);
     if said <= Opened::MOST_SLOTS { said } else { 0 }
 }
 
-// Room for the slots of any end store.
-fn room() -> [u8; Opened::MOST_OUTPUT]
-    ensures { result ≡ lent most_slots }
-{
-    [0u8; Opened::MOST_OUTPUT]
-}
-
-// Runs both sheets into an output, and puts the run's lines.
-fn print_into(
-    text: &mut [u8],
+// A run that an input asks for: both sheets, the rule and the budget.
+#[derive(Clone, Copy)]
+struct Request<'i> {
     rule: u32,
     budget: u32,
-    store: &[u8],
-    programme: &[u8],
-    slots: usize,
-    out: &mut [u8],
-) -> usize
-    requires { (slots ≤ most_slots) × (text_room ≤ length text.old) }
-    ensures { Put text.old 0
-        (call_lines (call store.now programme.now rule budget (length out.old) most_entries) slots out.old)
-        text_room result text.new }
-{
-    let a = run_lent(store, programme, rule, budget, Input::ENTRIES, out);
-    put_lines(text, a, store, slots, out)
+    store: &'i [u8],
+    programme: &'i [u8],
 }
 
-fn print_sheets(text: &mut [u8], rule: u32, budget: u32, store: &[u8], programme: &[u8]) -> usize
-    requires { text_room ≤ length text.old }
-    ensures { Put text.old 0 (printed_run rule budget store.now programme.now) text_room result text.new }
-{
-    let slots = slots_of(store);
-    let mut out = room();
-    let size = Opened::SLOT_WIDTH * slots;
-    print_into(
-        text,
-        rule,
-        budget,
-        store,
-        programme,
-        slots,
-        &mut out[..size],
-    )
-}
+impl<'i> Request<'i> {
+    // What the bytes ask for, if they hold the rule and the budget. The rest is both sheets, cut where the store sheet ends.
+    fn read(input: &'i [u8]) -> Option<Request<'i>>
+        ensures { MatchOption result (length input.now < head_width) (λ r. Asked input.now r) }
+    {
+        if input.len() < Input::HEAD {
+            return None;
+        }
+        let rest = &input[Input::HEAD..];
+        let (store, programme) = rest.split_at(store_length(rest));
+        Some(Request {
+            rule: u32::from(input[0]),
+            // four bytes, so the cast loses nothing
+            budget: store::number_at(input, 1, Input::BUDGET) as u32,
+            store,
+            programme,
+        })
+    }
 
-// The bytes after the rule and the budget, cut where the store sheet ends.
-fn print_rest(text: &mut [u8], rule: u32, budget: u32, rest: &[u8]) -> usize
-    requires { text_room ≤ length text.old }
-    ensures { Put text.old 0 (printed_sheets rule budget rest.now) text_room result text.new }
-{
-    let cut = store_length(rest);
-    print_sheets(text, rule, budget, &rest[..cut], &rest[cut..])
+    // Runs both sheets into an output, and puts the run's lines.
+    fn print(&self, text: &mut [u8]) -> usize
+        requires { text_room ≤ length text.old }
+        ensures { Put text.old 0 (run_of self.now) text_room result text.new }
+    {
+        let slots = slots_of(self.store);
+        let mut room = [0; Opened::MOST_OUTPUT];
+        let out = &mut room[..Opened::SLOT_WIDTH * slots];
+        let a = run_lent(
+            self.store,
+            self.programme,
+            self.rule,
+            self.budget,
+            Input::ENTRIES,
+            out,
+        );
+        put_lines(text, a, self.store, slots, out)
+    }
 }
 
 // All the bytes that are read.
@@ -111,19 +115,16 @@ fn print_read(text: &mut [u8], read: &[u8]) -> usize
     requires { text_room ≤ length text.old }
     ensures { Put text.old 0 (printed_read read.now) text_room result text.new }
 {
-    if read.len() < Input::HEAD {
-        return put_answer(text, store::unplaced(Answer::STORE_LENGTH));
+    match Request::read(read) {
+        Some(request) => request.print(text),
+        None => put_answer(text, Answer::from(Refusal::StoreLength)),
     }
-    let rule = read[0] as u32;
-    let budget = store::number_at(read, 1, Input::BUDGET) as u32;
-    print_rest(text, rule, budget, &read[Input::HEAD..])
 }
 
 // What is printed of a standard input: how many bytes at the start of the text are all of it.
 pub fn print_run(input: &[u8], text: &mut [u8; Text::MOST]) -> usize
     ensures { Begins text.old (printed input.now) result text.new }
 {
-    let all = input.len();
-    let size = if all < Input::MOST { all } else { Input::MOST };
+    let size = input.len().min(Input::MOST);
     print_read(text, &input[..size])
 }

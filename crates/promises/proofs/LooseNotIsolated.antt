@@ -18,7 +18,7 @@ use Rattle.syntax.specs.Sheet.{floor_of, header_of, header_at, start_of, header_
 use Rattle.calculus.specs.Rules.{rules_of, judges_views, judges_region, labels_judged, all_above, labels_suffice}
 use Rattle.calculus.specs.Calculus.{in_region, admit, fetch, eval, judge, authorised, reliable, permit, assignment, counted, written, entry_of, recorded, performed, step, attempt, choose}
 use Rattle.calculus.specs.Blocks.{halt_answer, start}
-use Rattle.calculus.specs.Counts.{total}
+use Rattle.store.specs.Counts.{total}
 use Rattle.calculus.specs.Vectors.{blank, int, bool, wrote, kept, flagged}
 use Rattle.isolation.specs.Isolation.{StoresAgree, FloorsOutOfReach, by_number}
 use Rattle.pausing.specs.Paths.{play, play_body, take_up, take_up_body, child_of, child, steps_body, takes_step, at_or_below, leads}

@@ -12,7 +12,7 @@ use Rattle.syntax.specs.Sheet.{floor_of, header_of, start_of, header_good, block
 use Rattle.calculus.specs.Rules.{rules_of, judges_views, judges_region, labels_judged, all_above, labels_suffice}
 use Rattle.calculus.specs.Calculus.{in_region, admit, fetch, takes, truth_of, gives, operate, eval, judge, authorised, reliable, permit, assignment, counted, written, entry_of, recorded, performed, step, attempt, choose}
 use Rattle.calculus.specs.Blocks.{halt_answer, start}
-use Rattle.calculus.specs.Counts.{total}
+use Rattle.store.specs.Counts.{total}
 use Rattle.pausing.specs.Paths.{rounds, play, play_body, play_all, take_up, take_up_body, take_up_all, child_in, child_of, child, steps_body, takes_step, at_or_below, leads}
 use Rattle.pausing.specs.Stretches.{pause_sheet, unused_zero, slot_in, store_in, output_good, path_good, checkpoint_good, take_up_blocks, settled, end_of, limits_at, run_from, fitting, position_of, stretch_opened, stretch_under, run_stretch, answer_of, output_of, pause_of}
 use Rattle.promises.specs.StretchesWorked.{places, budgets, values, changes, StretchesHold}

@@ -5,50 +5,59 @@ use mathlib.Core.List.{List}
 use native.Mathlib.Numerals.{sub-one}
 use native.Mathlib.Omega.{arith}
 use lib.ListN.{length, get_or}
-use borrow.Author.Tests.{le-ltb, lt-ltb, le-leb, lt-leb}
+use borrow.Author.Tests.{lt-ltb, le-leb}
+use Rattle.std.specs.Prelude as std
 use Rattle.values.specs.Result.{Result, ok, refuse, ◌>>=◌, require}
-use Rattle.reader.specs.declared.Reading.{Reading}
-use Rattle.reader.specs.declared.Reading.TheVariants.{Done, Refused}
-use Rattle.syntax.specs.Syntax.{Cmd, cmd, skip, seq, if, while, nil, cons}
-use Rattle.syntax.specs.Code.{Fault, Read, up_to, too_deep, CmdByte, sorted, expr_at, read_cmds, read_seq, read_if, read_while, body_by, body_too_deep, read_body, read_cmd}
-use Rattle.syntax.specs.Rows.{cmd_operands, body_operands, all_operands, rows_of, rows_body, rows_all, Compiled, filled}
-use Rattle.reader.specs.CodeReader.{cmd_emits, body_emits, all_emits, read_guarded, spot_at, Limit, limit_of, Reads}
-use Rattle.syntax.proofs.CodeFirstByte.{cmd_stands, body_none}
-use Rattle.reader.proofs.CodeReaderTables.{kept_self}
+use Rattle.reader.specs.declared.Fault as reader
+use Rattle.reader.specs.declared.Spot.{Spot}
+use Rattle.reader.specs.declared.code.Command.{Command}
+use Rattle.reader.specs.declared.code.Command.TheVariants as commands
+use Rattle.syntax.specs.declared.Compiled.{Compiled}
+use Rattle.syntax.specs.Syntax.{Cmd, cmd, seq, if, while, cons}
+use Rattle.syntax.specs.Code.{Fault, Read, up_to, ill_formed, too_deep, CmdByte, sorted, cmd_byte, expr_at, read_cmds, read_seq, read_if, read_while, body_by, body_too_deep, read_body, read_cmd}
+use Rattle.syntax.specs.Rows.{cmd_operands, body_operands, rows_of, rows_body}
+use Rattle.reader.specs.CodeReader.{first_byte, cmd_emits, body_emits, all_emits, read_guarded, spot_at, Limit, limit_of, Ended, Reads}
+use Rattle.syntax.proofs.CodeFirstByte.{cmd_stands, body_none, sorted_unknown}
 use Rattle.reader.proofs.CodeReaderEmission.{cons_emitted}
-use Rattle.reader.proofs.CodeReaderParts.{emitted_kept, finished, turned, refused_kept, went, stopped, made, wider, followed}
+use Rattle.reader.proofs.CodeReaderParts.{stopped, stopped_on, went, ended, reads_as, passed}
 use Rattle.reader.proofs.CodeReaderRoom.{bytes_on}
 
--- a command that is refused at its first byte
-module _ (m : ℕ) (s : List ℕ) (at depth : ℕ) (limit : Limit) (row operand : ℕ) (t : Compiled) where
-  abbrev Answers : ℕ → Reading → Type 0
-  Answers deep r = Reads (cmd_emits depth) (read_cmd deep m s at) limit row operand t t r
+-- A command that is refused at its first byte, ..
+pub body_unknown : (deep m : ℕ) (s : List ℕ) (at : ℕ) → at < length s → (get_or s at 0 ≡ 0x20 → ⊥) → (get_or s at 0 ≡ 0x21 → ⊥) → (get_or s at 0 ≡ 0x22 → ⊥)
+    → (get_or s at 0 ≡ 0x23 → ⊥) → (get_or s at 0 ≡ 0x24 → ⊥) → read_body deep m s at ≡ refuse (ill_formed at)
+unfolding read_body body_by body_too_deep
+body_unknown zero m s at h f g i j k = rw (cmd_stands s at h, sorted_unknown _ f g i j k)
+body_unknown (suc deep) m s at h f g i j k = rw (cmd_stands s at h, sorted_unknown _ f g i j k)
 
-  pub cmd_none : (deep : ℕ) → length s ≤ at → Answers deep (Refused 9 (length s))
-  unfolding ◌>>=◌
-  cmd_none deep h = turned _ _ _ _ _ _ _ _ _ (rw (body_none deep m s at h)) (kept_self _ _ _)
+-- .. and one that is known by it
+pub byte_stands : (s : List ℕ) (at b : ℕ) → at < length s → get_or s at 0 ≡ b → cmd_byte s at ≡ sorted b
+byte_stands s at b h e = rw (cmd_stands s at h, e)
 
-  pub cmd_unknown : (deep : ℕ) → at < length s → sorted (get_or s at 0) ≡ CmdByte.unknown_byte → Answers deep (Refused 9 at)
-  unfolding read_body body_by body_too_deep ◌>>=◌
-  cmd_unknown zero h o = turned _ _ _ _ _ _ _ _ _ (rw (cmd_stands s at h, o)) (kept_self _ _ _)
-  cmd_unknown (suc deep) h o = turned _ _ _ _ _ _ _ _ _ (rw (cmd_stands s at h, o)) (kept_self _ _ _)
+pub ruleset command_cases = (body_none, body_unknown, byte_stands)
 
-  pub cmd_too_deep : (deep b : ℕ) → at < length s → get_or s at 0 ≡ b → deep ≡ 0 → body_too_deep (sorted b) s at ≡ refuse (too_deep at)
-      → Answers deep (Refused 10 at)
-  unfolding read_body ◌>>=◌
-  cmd_too_deep zero b h q z k = turned _ _ _ _ _ _ _ _ _ (rw (cmd_stands s at h, q, k)) (kept_self _ _ _)
-  cmd_too_deep (suc deep) b h q z k = absurd (omega arith)
+-- A command where none is allowed any more, ..
+pub body_deep : (deep m : ℕ) (s : List ℕ) (at : ℕ) (c : Command) → deep ≡ 0 → cmd_byte s at ≡ first_byte c → read_body deep m s at ≡ refuse (too_deep at)
+unfolding read_body body_too_deep
+body_deep deep m s at commands.Skip z h = rw (z, h)
+body_deep deep m s at commands.Assign z h = rw (z, h)
+body_deep deep m s at commands.Sequence z h = rw (z, h)
+body_deep deep m s at commands.If z h = rw (z, h)
+body_deep deep m s at commands.While z h = rw (z, h)
 
--- with b a numeral, `body_by (sorted b)` computes to the command's own definition
-pub cmd_by : (m : ℕ) (s : List ℕ) (at depth : ℕ) (limit : Limit) (row operand : ℕ) (old new : Compiled) (deep b : ℕ) (r : Reading)
-    → at < length s → get_or s at 0 ≡ b → (deep ≡ 0 → ⊥)
-    → Reads (body_emits at depth) (body_by (sorted b) (read_cmd (deep - 1) m s) m s at) limit row operand old new r
-    → Reads (cmd_emits depth) (read_cmd deep m s at) limit row operand old new r
-unfolding read_body rows_of cmd_operands
-cmd_by m s at depth limit row operand old new zero b r h q z k = absurd (z refl)
-cmd_by m s at depth limit row operand old new (suc deep) b r h q z k =
-    made (body_emits at depth) (cmd_emits depth) limit row operand old new _ (λ x. cmd at x.tree) r (λ x. refl) (λ x. refl)
-    (rw (cmd_stands s at h, q) (rw sub-one at k))
+-- .. and where one is.
+pub body_is : (deep m : ℕ) (s : List ℕ) (at : ℕ) (b : CmdByte) → 0 < deep → cmd_byte s at ≡ b → read_body deep m s at ≡ body_by b (read_cmd (deep - 1) m s) m s at
+unfolding read_body
+body_is zero m s at b z h = absurd (omega arith)
+body_is (suc deep) m s at b z h = rw (h, sub-one)
+
+-- what is answered of a command's body is answered of the command
+pub cmd_reads : (deep depth m : ℕ) (s : List ℕ) (limit : Limit) (from : Spot) (old new : Compiled) (b : CmdByte) (r : std.Result Spot reader.Fault)
+    → 0 < deep → cmd_byte s from.at ≡ b
+    → Reads (body_emits from.at depth) (body_by b (read_cmd (deep - 1) m s) m s from.at) limit from old new r
+    → Reads (cmd_emits depth) (read_cmd deep m s from.at) limit from old new r
+unfolding rows_of cmd_operands
+cmd_reads deep depth m s limit from old new b r z h y =
+    rw (body_is deep m s from.at b z h) (reads_as (λ to e. went _ e (ended (cmd from.at e.tree) e.emitted)) (λ f t. stopped _ t) r y)
 
 -- what is made of two parts, and what is made of that
 through : {A B C D : Type 0} (r : Result Fault A) (q : A → Result Fault B) (f : A → B → C) (k : C → Result Fault D)
@@ -72,63 +81,30 @@ module _ (inner : ℕ → Result Fault (Read Cmd)) (m : ℕ) (s : List ℕ) (at 
   unfolding read_if read_guarded
   if_guarded = sym (through (expr_at m s (at + 1)) (λ g. inner g.next) _ _)
 
--- The cases of `read_cmds`.
-module _ (depth : ℕ) (f : ℕ → Result Fault (Read Cmd)) (limit : Limit) where
-  pub cmds_none : (n at row operand : ℕ) (t : Compiled) → n ≤ 0 → Reads (all_emits depth) (read_cmds f n at) limit row operand t t (Done at row operand)
-  unfolding read_cmds rows_all all_operands filled
-  cmds_none zero at row operand t h =
-      finished _ _ _ _ _ _ _ _ _ _ nil refl (record { rows = omega arith; operands = omega arith; tables = refl })
-  cmds_none (suc n) at row operand t h = absurd (omega arith)
+-- Commands one after the other: the first, and then the rest.
+pub cmds_more : (f : ℕ → Result Fault (Read Cmd)) (n at : ℕ) → 0 < n
+    → read_cmds f n at ≡ (f at >>= λ c. read_cmds f (n - 1) c.next >>= λ cs. up_to cs.next (cons c.tree cs.tree))
+unfolding read_cmds
+cmds_more f zero at h = absurd (omega arith)
+cmds_more f (suc n) at h = rw sub-one
 
-  -- the first was read, and then the rest
-  pub cmds_went : (n at row operand : ℕ) (x : Reading) (limit₁ : Limit) (old mid new : Compiled) → 0 < n
-      → Reads (cmd_emits depth) (f at) limit₁ row operand old mid x → (next row' operand' : ℕ) (r : Reading) → x ≡ Done next row' operand'
-      → row' ≤ limit.rows → operand' ≤ limit.operands → Reads (all_emits depth) (read_cmds f (n - 1) next) limit row' operand' mid new r
-      → Reads (all_emits depth) (read_cmds f n at) limit row operand old new r
-  unfolding read_cmds
-  cmds_went zero at row operand x limit₁ old mid new l y next row' operand' r h i j k = absurd (omega arith)
-  cmds_went (suc n) at row operand x limit₁ old mid new l y next row' operand' r h i j k =
-      went (cmd_emits depth) (all_emits depth) (f at) _ limit₁ limit row operand row operand old mid old new x y next row' operand' r h
-      (λ c p. followed (all_emits depth) (all_emits depth) (λ cs. cons c cs) limit limit row operand row' operand' old mid new (read_cmds f n next) r
-      (λ cs a b q. cons_emitted depth row operand row' operand' a b c cs old mid new p q)
-      (emitted_kept (cmd_emits depth) c row operand row' operand' old mid p _ _ i j) (omega arith) (omega arith) (rw sub-one at k))
-
-  -- the first was refused
-  pub cmds_stopped : (n at row operand : ℕ) (x : Reading) (limit₁ : Limit) (old mid : Compiled) → 0 < n
-      → Reads (cmd_emits depth) (f at) limit₁ row operand old mid x → (i o : ℕ) → x ≡ Refused i o
-      → limit₁.rows ≤ limit.rows → limit₁.operands ≤ limit.operands
-      → Reads (all_emits depth) (read_cmds f n at) limit row operand old mid (Refused i o)
-  unfolding read_cmds
-  cmds_stopped zero at row operand x limit₁ old mid l y i o h p q = absurd (omega arith)
-  cmds_stopped (suc n) at row operand x limit₁ old mid l y i o h p q =
-      stopped (cmd_emits depth) (all_emits depth) (f at) _ limit₁ limit row operand row operand old mid old mid x y i o h
-      (refused_kept (cmd_emits depth) limit₁ row operand old mid (f at) x y i o h _ _ p q)
-
--- The cases of `read_seq`.
-module _ (depth : ℕ) (f : ℕ → Result Fault (Read Cmd)) (s : List ℕ) (at : ℕ) (limit : Limit) (row operand : ℕ) where
-  pub seq_none : (t : Compiled) → length s ≤ at + 1 → Reads (body_emits at depth) (read_seq f s at) limit row operand t t (Refused 9 (length s))
-  unfolding read_seq require
-  seq_none t h = turned _ _ _ _ _ _ _ _ _ (rw (le-ltb _ _ h)) (kept_self _ _ _)
-
-  pub seq_few : (t : Compiled) → at + 1 < length s → get_or s (at + 1) 0 < 2
-      → Reads (body_emits at depth) (read_seq f s at) limit row operand t t (Refused 9 (at + 1))
-  unfolding read_seq require
-  seq_few t h w = turned _ _ _ _ _ _ _ _ _ (rw (lt-ltb _ _ h, lt-leb _ _ w)) (kept_self _ _ _)
+-- the first was read, and then the rest
+pub cmds_went : (depth : ℕ) (f : ℕ → Result Fault (Read Cmd)) (limit : Limit) (n : ℕ) {from mid : Spot} {old now : Compiled} (new : Compiled)
+    (r : std.Result Spot reader.Fault) → 0 < n → Ended (cmd_emits depth) (f from.at) from mid old now → mid.row ≤ limit.rows → mid.operand ≤ limit.operands
+    → Reads (all_emits depth) (read_cmds f (n - 1) mid.at) limit mid now new r → Reads (all_emits depth) (read_cmds f n from.at) limit from old new r
+cmds_went depth f limit n {from = from} new r l z i j y =
+    rw (cmds_more f n from.at l)
+    (reads_as (λ to e. went _ z (went _ e (ended (cons z.tree e.tree) (cons_emitted depth z.tree e.tree z.emitted e.emitted))))
+    (λ g t. stopped_on _ z i j (stopped _ t)) r y)
 
 -- a count, and then what is answered of the commands after it
-pub seq_counted : (depth : ℕ) (f : ℕ → Result Fault (Read Cmd)) (s : List ℕ) (at row operand : ℕ) (old new : Compiled) (r : Reading) → at + 1 < length s → 2 ≤ get_or s (at + 1) 0
-    → Reads (all_emits depth) (read_cmds f (get_or s (at + 1) 0) (at + 2)) (limit_of (length s) (spot_at (at + 2) row operand)) row operand old new r
-    → Reads (body_emits at depth) (read_seq f s at) (limit_of (length s) (spot_at at row operand)) row operand old new r
+pub seq_counted : (depth : ℕ) (f : ℕ → Result Fault (Read Cmd)) (s : List ℕ) (from : Spot) (old new : Compiled) (r : std.Result Spot reader.Fault) {n : ℕ}
+    → from.at + 1 < length s → get_or s (from.at + 1) 0 ≡ n → 2 ≤ n
+    → Reads (all_emits depth) (read_cmds f n (from.at + 2)) (limit_of (length s) (spot_at (from.at + 2) from.row from.operand))
+    (spot_at (from.at + 2) from.row from.operand) old new r
+    → Reads (body_emits from.at depth) (read_seq f s from.at) (limit_of (length s) from) from old new r
 unfolding read_seq require rows_body body_operands
-seq_counted depth f s at row operand old new r h w a =
-    let b = bytes_on (length s) at (at + 2) row operand (omega arith) (omega arith) in
-    rw (lt-ltb _ _ h, le-leb _ _ w)
-    (made (all_emits depth) (body_emits at depth) _ row operand old new _ (λ cs. seq cs.tree) r (λ cs. refl) (λ cs. refl)
-    (wider (all_emits depth) _ _ row operand old new _ r b.rows b.operands a))
-
--- a skip puts nothing in
-pub skip_read : (at depth next : ℕ) (limit : Limit) (row operand : ℕ) (t : Compiled)
-    → Reads (body_emits at depth) (up_to next skip) limit row operand t t (Done next row operand)
-unfolding rows_body body_operands filled
-skip_read at depth next limit row operand t =
-    finished _ _ _ _ _ _ _ _ _ _ skip refl (record { rows = omega arith; operands = omega arith; tables = refl })
+seq_counted depth f s from old new r h e w y =
+    rw (lt-ltb _ _ h, e, le-leb _ _ w)
+    (passed _ _ old new r (bytes_on (omega arith) (omega arith))
+    (reads_as (λ to z. went _ z (ended (seq z.tree) z.emitted)) (λ g t. stopped _ t) r y))

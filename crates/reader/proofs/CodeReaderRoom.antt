@@ -4,19 +4,17 @@ use mathlib.Core.Path.{◌≡◌}
 use mathlib.Core.List.{List}
 use native.Mathlib.Omega.{arith}
 use lib.ListN.{length, length-append}
-use Rattle.values.specs.Result.{Result}
-use Rattle.values.proofs.Result.{Post, Any, post_ok, post_bind, post_map, post_at}
-use Rattle.reader.specs.declared.Reading.{Reading}
-use Rattle.reader.specs.declared.Reading.TheVariants.{Done}
+use Rattle.values.proofs.Result.{Post, Any, post_ok, post_bind, post_at}
 use Rattle.reader.specs.declared.Spot.{Spot}
-use Rattle.syntax.specs.Code.{Fault, Read, read_expr, expr_at, read_cmd, most_deep}
-use Rattle.syntax.specs.Rows.{operands_of, cmd_operands, size, Compiled, expr_width, pair_width, most_rows, most_operands}
-use Rattle.reader.specs.CodeReader.{Emits, part_emits, expr_emits, cmd_emits, read_guarded, guarded_emits, spot_at, Limit, limit_of, Reads, CanRead}
+use Rattle.syntax.specs.declared.Compiled.{Compiled}
+use Rattle.syntax.specs.Code.{read_expr, read_cmd, most_deep}
+use Rattle.syntax.specs.Rows.{operands_of, cmd_operands, size, expr_width, pair_width, most_rows, most_operands}
+use Rattle.reader.specs.CodeReader.{part_emits, cmd_emits, read_guarded, guarded_emits, spot_at, row_on, limit_of, Ended, CanRead, Short}
 use Rattle.syntax.specs.Sheet.{most_code}
 use Rattle.syntax.proofs.RowsPostfix.{postfix_length}
 use Rattle.syntax.proofs.Rows.{rows_length}
 use Rattle.syntax.proofs.RowsByteSpans.{Spans, expr_deep, expr_spans, cmd_spans}
-use Rattle.reader.proofs.CodeReaderParts.{ended}
+use Rattle.reader.proofs.CodeReaderTables.{operand_on}
 
 -- from one spot of `all` bytes to another
 pub record Onwards (all : ℕ) (from to : Spot) : Type 0 where
@@ -26,13 +24,12 @@ pub record Onwards (all : ℕ) (from to : Spot) : Type 0 where
   pub operands : (limit_of all to).operands ≤ (limit_of all from).operands
 
 -- bytes are passed, ..
-pub bytes_on : (all at at' row operand : ℕ) → at ≤ at' → at' ≤ all → Onwards all (spot_at at row operand) (spot_at at' row operand)
-bytes_on all at at' row operand h k = record { onwards = h; inside = k; rows = omega arith; operands = omega arith }
+pub bytes_on : {all : ℕ} {from : Spot} {at : ℕ} → from.at ≤ at → at ≤ all → Onwards all from (spot_at at from.row from.operand)
+bytes_on h k = record { onwards = h; inside = k; rows = omega arith; operands = omega arith }
 
 -- .. or something is read
-pub spans_onwards : (all at next r o row operand row' operand' : ℕ) → Spans all at next r o → row' ≡ row + r → operand' ≡ operand + o
-    → Onwards all (spot_at at row operand) (spot_at next row' operand')
-spans_onwards all at next r o row operand row' operand' w p q =
+spans_onwards : (all r o : ℕ) {from to : Spot} → Spans all from.at to.at r o → to.row ≤ from.row + r → to.operand ≡ from.operand + o → Onwards all from to
+spans_onwards all r o w p q =
     record {
       onwards = omega (arith, w.operands);
       inside = w.within;
@@ -75,85 +72,83 @@ small c = record {
   operand = omega (arith, c.operands);
 }
 
--- What was read is onwards.
-module _ {A : Type 0} (e : Emits A) (p : Result Fault (Read A)) (all from row operand : ℕ) (limit : Limit) (old new : Compiled) (x : Reading)
-    (y : Reads e p limit row operand old new x) (at row' operand' : ℕ) (h : x ≡ Done at row' operand') where
-  read_spans : Post (λ a. Spans all from a.next (length (e.rows a.tree row operand)) (length (e.operands a.tree))) Any p
-      → Onwards all (spot_at from row operand) (spot_at at row' operand')
-  read_spans q =
-      let z = ended e limit row operand old new p x y at row' operand' h in
-      spans_onwards all from at _ _ row operand row' operand' (post_at _ _ _ _ q z.is) z.emitted.rows z.emitted.operands
+-- .. and of one further on
+pub small_on : {code : List ℕ} {from to : Spot} {levels : ℕ} → CanRead code from levels → Onwards (length code) from to → Small to
+small_on c p = small (can_go 0 c p (omega arith))
 
--- An expression's bytes, and the operands that it takes.
-pub record Taken (all at next operand operand' : ℕ) : Type 0 where
-  pub within : next ≤ all
-  pub wide : at + expr_width ≤ next
-  pub operands : pair_width * (operand' + 1) + 2 * at ≤ 2 * (next + 1) + pair_width * operand
+-- the numbers of a guard's row, which may name a row up to one further on
+pub guard_short : {code : List ℕ} {from to : Spot} {depth n : ℕ} (deep : ℕ) → CanRead code from (depth + deep + 1) → Onwards (length code) from to → n ≤ to.row
+    → Short depth × Short from.at × Short from.operand × Short n
+guard_short deep c p h =
+    let a = small c in
+    (omega (arith, c.level), omega (arith, a.at), omega (arith, a.operand), omega (arith, (small_on c p).row))
 
-taken_on : (all at next row operand operand' : ℕ) → Taken all at next operand operand' → Onwards all (spot_at at row operand) (spot_at next row operand')
-taken_on all at next row operand operand' w = record {
+-- An expression's bytes, and the operands that it takes; it takes no rows.
+pub record Taken (all : ℕ) (from to : Spot) : Type 0 where
+  pub within : to.at ≤ all
+  pub wide : from.at + expr_width ≤ to.at
+  pub row : to.row ≡ from.row
+  pub operands : pair_width * (to.operand + 1) + 2 * from.at ≤ 2 * (to.at + 1) + pair_width * from.operand
+
+pub taken_on : {all : ℕ} {from to : Spot} → Taken all from to → Onwards all from to
+taken_on w = record {
   onwards = omega (arith, w.wide);
   inside = w.within;
-  rows = omega (arith, w.wide);
+  rows = omega (arith, w.wide, w.row);
   operands = omega (arith, w.within, w.operands);
 }
 
 -- two of them leave room for an operand more
-pub both_on : (all at middle next row operand right last : ℕ) → Taken all at middle operand right → Taken all middle next right last
-    → Onwards all (spot_at at row operand) (spot_at next row (last + 1))
-both_on all at middle next row operand right last p q = record {
+pub both_on : {all : ℕ} {a b c : Spot} → Taken all a b → Taken all b c → Onwards all a (operand_on c)
+both_on p q = record {
   onwards = omega (arith, p.wide, q.wide);
   inside = q.within;
-  rows = omega (arith, p.wide, q.wide);
+  rows = omega (arith, p.wide, q.wide, p.row, q.row);
   operands = omega (arith, q.within, p.operands, q.operands);
 }
 
-module _ (m : ℕ) (s : List ℕ) (from row operand : ℕ) (limit : Limit) (old new : Compiled) (x : Reading) where
-  pub part_taken : (deep reads : ℕ) → Reads (part_emits reads) (read_expr deep m s from) limit row operand old new x → (at row' operand' : ℕ)
-      → x ≡ Done at row' operand' → Taken (length s) from at operand operand'
-  part_taken deep reads y at row' operand' h =
-      let z = ended (part_emits reads) limit row operand old new (read_expr deep m s from) x y at row' operand' h in
-      let w = post_at _ _ _ _ (expr_deep m s deep from) z.is in
+-- a command's own byte and a guard have room for a row more
+pub guard_on : {all at : ℕ} {from to : Spot} → at ≡ from.at + 1 → Taken all (spot_at at from.row from.operand) to → Onwards all from (row_on to)
+guard_on h w = record {
+  onwards = omega (arith, w.wide);
+  inside = w.within;
+  rows = omega (arith, w.within, w.wide, w.row);
+  operands = omega (arith, w.within, w.operands);
+}
+
+-- What was read is onwards.
+module _ (deep : ℕ) (m : ℕ) (s : List ℕ) where
+  pub part_taken : (reads : ℕ) {from to : Spot} {old new : Compiled} → Ended (part_emits reads) (read_expr deep m s from.at) from to old new
+      → Taken (length s) from to
+  part_taken reads {from = from} z =
+      let w = post_at _ _ _ _ (expr_deep m s deep from.at) z.is in
       let l = postfix_length z.tree reads 0 in
-      record { within = w.within; wide = w.wide; operands = omega (arith, w.operands, l, z.emitted.operands) }
+      record {
+        within = w.within;
+        wide = w.wide;
+        row = omega (arith, z.emitted.rows_on);
+        operands = omega (arith, w.operands, l, z.emitted.operands_on);
+      }
 
-  -- as it has no rows, the next row stays
-  pub part_on : (deep reads : ℕ) → Reads (part_emits reads) (read_expr deep m s from) limit row operand old new x → (at row' operand' : ℕ)
-      → x ≡ Done at row' operand' → Onwards (length s) (spot_at from row operand) (spot_at at row operand')
-  part_on deep reads y at row' operand' h =
-      taken_on (length s) from at row operand operand' (part_taken deep reads y at row' operand' h)
+  pub cmd_onwards : (depth : ℕ) {from to : Spot} {old new : Compiled} → Ended (cmd_emits depth) (read_cmd deep m s from.at) from to old new
+      → Onwards (length s) from to
+  cmd_onwards depth {from = from} z =
+      spans_onwards _ _ _ (post_at _ _ _ _ (cmd_spans deep m s from.at) z.is)
+      (omega (arith, z.emitted.rows_on, rows_length z.tree depth from.row from.operand)) z.emitted.operands_on
 
-  -- a guard has ten bytes after its command's own, so that its row is paid for too
-  pub guard_onwards : Reads expr_emits (expr_at m s (from + 1)) limit row operand old new x → (at row' operand' : ℕ) → x ≡ Done at row' operand'
-      → Onwards (length s) (spot_at from row operand) (spot_at at (row' + 1) operand')
-  guard_onwards y at row' operand' h =
-      let z = ended expr_emits limit row operand old new (expr_at m s (from + 1)) x y at row' operand' h in
-      let w = post_at _ _ _ _ (expr_spans m s (from + 1)) z.is in
-      spans_onwards (length s) from at 1 (length (operands_of z.tree)) row operand (row' + 1) operand'
-      (record { within = w.within; rows = omega (arith, w.wide); operands = omega (arith, w.operands) })
-      (omega (arith, z.emitted.rows)) z.emitted.operands
+  guarded_spans : (depth at : ℕ) → Post (λ x. Spans (length s) at x.next (size x.tree.inside + 2) (length ((guarded_emits depth).operands x.tree))) Any
+      (read_guarded (read_cmd deep m s) m s at)
+  unfolding read_guarded
+  guarded_spans depth at =
+      post_bind _ _ _ _ _ (expr_spans m s (at + 1))
+      (λ g p. post_bind _ _ _ _ _ (cmd_spans deep m s g.next)
+      (λ c i. let l = length-append (operands_of g.tree) (cmd_operands c.tree) in
+      post_ok _ _ _ (record { within = i.within; rows = omega (arith, p.wide, i.rows); operands = omega (arith, l, p.operands, i.operands) })))
 
-  module _ (deep depth : ℕ) where
-    pub cmd_onwards : Reads (cmd_emits depth) (read_cmd deep m s from) limit row operand old new x → (at row' operand' : ℕ) → x ≡ Done at row' operand'
-        → Onwards (length s) (spot_at from row operand) (spot_at at row' operand')
-    cmd_onwards y at row' operand' h =
-        read_spans (cmd_emits depth) (read_cmd deep m s from) (length s) from row operand limit old new x y at row' operand' h
-        (post_map _ _ _ _ _ (cmd_spans deep m s from) (λ c w. rw (rows_length c.tree depth row operand) w) (λ f q. q))
-
-    guarded_spans : Post (λ x. Spans (length s) from x.next (size x.tree.inside + 2) (length ((guarded_emits depth).operands x.tree))) Any
-        (read_guarded (read_cmd deep m s) m s from)
-    unfolding read_guarded
-    guarded_spans =
-        post_bind _ _ _ _ _ (expr_spans m s (from + 1))
-        (λ g p. post_bind _ _ _ _ _ (cmd_spans deep m s g.next)
-        (λ c i. let l = length-append (operands_of g.tree) (cmd_operands c.tree) in
-        post_ok _ _ _ (record { within = i.within; rows = omega (arith, p.wide, i.rows); operands = omega (arith, l, p.operands, i.operands) })))
-
-    -- the first command inside a guard, whose own row is taken; a jump's row is paid for too
-    pub guarded_onwards : Reads (guarded_emits depth) (read_guarded (read_cmd deep m s) m s from) limit (row + 1) operand old new x → (at row' operand' : ℕ) → x ≡ Done at row' operand'
-        → Onwards (length s) (spot_at from row operand) (spot_at at (row' + 1) operand')
-    guarded_onwards y at row' operand' h =
-        let z = ended (guarded_emits depth) limit (row + 1) operand old new (read_guarded (read_cmd deep m s) m s from) x y at row' operand' h in
-        let n = operand + length (operands_of z.tree.guard) in
-        spans_onwards (length s) from at (size z.tree.inside + 2) (length ((guarded_emits depth).operands z.tree)) row operand (row' + 1) operand'
-        (post_at _ _ _ _ guarded_spans z.is) (omega (arith, z.emitted.rows, rows_length z.tree.inside (depth + 1) (row + 1) n)) z.emitted.operands
+  -- the first command inside a guard, whose own row is taken; a jump's row is paid for too
+  pub guarded_onwards : (depth : ℕ) {from to : Spot} {old new : Compiled}
+      → Ended (guarded_emits depth) (read_guarded (read_cmd deep m s) m s from.at) (row_on from) to old new → Onwards (length s) from (row_on to)
+  guarded_onwards depth {from = from} z =
+      let n = from.operand + length (operands_of z.tree.guard) in
+      spans_onwards _ _ _ (post_at _ _ _ _ (guarded_spans depth from.at) z.is)
+      (omega (arith, z.emitted.rows_on, rows_length z.tree.inside (depth + 1) (from.row + 1) n)) z.emitted.operands_on

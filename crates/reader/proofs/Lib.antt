@@ -1,9 +1,7 @@
-pub mod CodeReaderTables
-pub mod CodeReaderParts
 pub mod CodeReaderValues
-pub mod CodeReaderRoom
-pub mod CodeReaderExpressions
-pub mod CodeReaderReads
 pub mod CodeReaderCommands
 pub mod CodeReaderEmission
-pub mod CodeReaderBodies
+pub mod CodeReaderExpressions
+pub mod CodeReaderParts
+pub mod CodeReaderRoom
+pub mod CodeReaderTables

@@ -1,40 +1,66 @@
 // The reader of code: it checks a block's code and compiles it while it does. For `programme`, which has made sure of what a part `requires`.
 // Definitions in specs/, laws in proofs/.
+// Code, slots and tables stay three parameters: of a struct that borrows them each clause would say `source.entry.code.now`, which is no plainer.
 #![tactic(auto)]
+
+ghost use Rattle.std.specs.Prelude.{◌≡◌};
+ghost use Rattle.syntax.specs.Code.{ill_formed, too_deep};
+ghost use Rattle.reader.specs.CodeReader.{fault_of, ByteAt};
 
 mod code;
 mod expression;
 mod literals;
 
 pub use code::read_block;
+use values::Refusal;
 
 // Where reading stands: the next byte of the block's code, and the next free row and operand.
-#[derive(Clone, Copy)]
+#[derive(Clone, Copy, Debug, PartialEq, Eq)]
 pub struct Spot {
     pub at: usize,
     pub row: usize,
     pub operand: usize,
 }
 
-// What was read ended before a spot; or a refusal and its offset.
-#[derive(Clone, Copy)]
-pub enum Reading {
-    Done {
-        at: usize,
-        row: usize,
-        operand: usize,
-    },
-    Refused {
-        number: u32,
-        at: usize,
-    },
+// Why code is refused, and at which byte of the block's code.
+#[derive(Clone, Copy, Debug, PartialEq, Eq)]
+pub struct Fault {
+    pub refusal: Refusal,
+    pub at: usize,
 }
 
-// A literal's value, or a refusal and its offset.
-#[derive(Clone, Copy)]
-pub enum Literal {
-    Value { kind: u8, payload: u64 },
-    Refused { number: u32, at: usize },
+impl Fault {
+    // 9: an unknown byte, a bad count or literal; at the code's end, code that ends early.
+    #[tactic(auto, unfolding(values::specs::Refusal::number))]
+    fn ill_formed(at: usize) -> Fault
+        ensures { fault_of result ≡ ill_formed at }
+    {
+        Fault {
+            refusal: Refusal::IllFormedCode,
+            at,
+        }
+    }
+
+    // 10: nested too deep.
+    #[tactic(auto, unfolding(values::specs::Refusal::number))]
+    fn too_deep(at: usize) -> Fault
+        ensures { fault_of result ≡ too_deep at }
+    {
+        Fault {
+            refusal: Refusal::NestedTooDeep,
+            at,
+        }
+    }
+}
+
+// The byte at `at`. Code that ends before it is refused at its end.
+fn byte_at(code: &[u8], at: usize) -> Result<u8, Fault>
+    ensures { ByteAt code.now at result }
+{
+    match code.get(at) {
+        Some(b) => Ok(*b),
+        None => Err(Fault::ill_formed(code.len())),
+    }
 }
 
 // First bytes.

@@ -6,6 +6,7 @@ use native.Mathlib.Omega.{arith}
 use native.Mathlib.Decide.{ℕ_discrete, dec_lt}
 use lib.ListN.{length, get_or, take, drop, length-append}
 use lib.Seq.{take-append_seam, drop-append_seam, take_at}
+use Rattle.store.specs.declared.HeldSlot.{HeldSlot}
 use Rattle.lattice.proofs.Order.{good_at}
 use Rattle.values.specs.declared.Entry.{Entry}
 use Rattle.values.specs.Result.{Result, ok, refuse, ◌>>=◌, refused_as}
@@ -24,7 +25,7 @@ use Rattle.machine.specs.MachineNumbers.{floor_held, Serves, DoneAs}
 use Rattle.machine.specs.CompiledRuns.{Span, BlocksAt, span_of}
 use Rattle.machine.specs.Machine.{Given, given, Place, place, GoesOn, Allows, Full, Halts, CanGo}
 use Rattle.machine.specs.BlockRuns.{Served, Under, HeadersAt, CanTell, LeftToPlay}
-use Rattle.runner.specs.Journal.{Replayed, played_by, Finishing, setting_in, Inside, CanMake, Makes}
+use Rattle.runner.specs.Journal.{Replayed, Finishing, setting_in, Inside, CanMake, Makes}
 use Rattle.machine.proofs.RuleTerms.{serves_under}
 use Rattle.machine.proofs.MachineRows.{step_refused, attempt_full, assign_ends, takes_assign}
 use Rattle.machine.proofs.MachineRuns.{paused_stops}
@@ -77,7 +78,7 @@ module _ (g : Replayed) (f : Finishing g) (block : ℕ) (inner : Result Pause St
 
 module _ (g : Replayed) (f : Finishing g) where
   abbrev under : (i : ℕ) (h : Header) → Type 0
-  under i h = Under (setting_in f i h) g.first.table g.first.judges h
+  under i h = Under (setting_in f i h) g.by.order g.by.judges h
 
   is_under : (i : ℕ) (h : Header) → h.region < f.tables.order.n → under i h
   is_under i h r =
@@ -90,27 +91,27 @@ module _ (g : Replayed) (f : Finishing g) where
       }
 
   abbrev pub full : ℕ
-  full = top_mask g.first.table.n
+  full = top_mask g.by.order.n
 
   -- terms that serve a block, whatever it is
   abbrev some_terms : Header → Terms
   some_terms h =
-      let j = g.first.judges in
+      let j = g.by.judges in
       record {
         views = j.views;
         regions = j.regions;
         labels = j.labels;
         branches = j.branches;
         floor = floor_held h.endorsed h.floor;
-        region = get_or g.first.table.masks h.region 0;
+        region = get_or g.by.order.masks h.region 0;
         top = full;
       }
 
-  serve : (h : Header) → Served g.first.table g.first.judges h (some_terms h)
-  serve h w u = serves_under w g.first.table g.first.judges h _ _ _ u refl refl refl
+  serve : (h : Header) → Served g.by.order g.by.judges h (some_terms h)
+  serve h w u = serves_under w g.by.order g.by.judges h _ _ _ u refl refl refl
 
-  module _ (from : From) (held : List (List ℕ)) (x : Entry) (es : List Entry)
-      (l : LeftToPlay f.tables f.rules f.limits (played_by g) g.sheet (k_of g.sheet) from held (ok f.end))
+  module _ (from : From) (held : List HeldSlot) (x : Entry) (es : List Entry)
+      (l : LeftToPlay f.tables f.rules f.limits g.by g.sheet (k_of g.sheet) from held (ok f.end))
       (left : f.end.journal ≡ l.state.journal ++ (x ∷ es)) where
     -- there is one, since a write is left
     pub enter_some : from.block < k_of g.sheet
@@ -125,10 +126,10 @@ module _ (g : Replayed) (f : Finishing g) where
     pub entered : Inside g f (everywhere full) held (x ∷ es) from.block from.row from.steps
     unfolding HeadersAt BlocksAt block_goes
     entered =
-        let n = left_next f.tables f.rules f.limits (played_by g) g.sheet (k_of g.sheet) from held (ok f.end) enter_some l in
+        let n = left_next f.tables f.rules f.limits g.by g.sheet (k_of g.sheet) from held (ok f.end) enter_some l in
         let h = n.block.header in
-        let hs = headers f.tables f.rules f.limits (played_by g) g.sheet (k_of g.sheet) from held (ok f.end) l n in
-        let st = stand f.tables f.rules f.limits (played_by g) g.sheet (k_of g.sheet) from held (ok f.end) l n in
+        let hs = headers f.tables f.rules f.limits g.by g.sheet (k_of g.sheet) from held (ok f.end) l n in
+        let st = stand f.tables f.rules f.limits g.by g.sheet (k_of g.sheet) from held (ok f.end) l n in
         record {
           header = h;
           heads = hs.0;
@@ -138,7 +139,7 @@ module _ (g : Replayed) (f : Finishing g) where
           room = length l.state.journal;
           inner = _;
           goes =
-              block_goes (setting_in f from.block h) g.tables from.row from.steps 0 (length l.state.journal) full held
+              block_goes (setting_in f from.block h) g.by.tables from.row from.steps 0 (length l.state.journal) full held
               (serve h (setting_in f from.block h) (is_under from.block h hs.1)).top l.state
               (record { store = l.store_held; steps = l.steps; counts = l.counts; entries = omega arith }) (omega (arith, l.kept, f.budget)) l.operand n.block.command st.0;
           fits = omega (arith, l.entries);
@@ -148,13 +149,13 @@ module _ (g : Replayed) (f : Finishing g) where
           headers = hs.2;
           operand = l.operand + length (cmd_operands n.block.command);
           stand = st.1;
-          means = unrolled f.tables f.rules f.limits (played_by g) g.sheet (k_of g.sheet) from held (ok f.end) l n;
+          means = unrolled f.tables f.rules f.limits g.by g.sheet (k_of g.sheet) from held (ok f.end) l n;
           left = left;
         }
 
 -- Going on in it
 
-module _ {g : Replayed} {f : Finishing g} {labels : List ℕ} {store : List (List ℕ)} {js : List Entry} {block row steps : ℕ}
+module _ {g : Replayed} {f : Finishing g} {labels : List ℕ} {store : List HeldSlot} {js : List Entry} {block row steps : ℕ}
     (i : Inside g f labels store js block row steps) where
   abbrev pub w : Setting
   w = setting_in f block i.header
@@ -171,11 +172,11 @@ module _ {g : Replayed} {f : Finishing g} {labels : List ℕ} {store : List (Lis
       }
 
   -- the end's journal goes on from whatever the block comes to
-  module _ {span : Span} {room : ℕ} {p : Place} (o : GoesOn w g.tables span room p i.inner) (h : o.state.steps ≤ w.limits.budget) where
+  module _ {span : Span} {room : ℕ} {p : Place} (o : GoesOn w g.by.tables span room p i.inner) (h : o.state.steps ≤ w.limits.budget) where
     end_extends : Extends o.state.journal f.end.journal
     end_extends =
         let d = inner_done g f block i.inner i.rest i.means in
-        extends_trans o.state.journal d.state.journal f.end.journal (post_at _ _ _ _ (runs_extend w g.tables span o.runs h) d.is).0
+        extends_trans o.state.journal d.state.journal f.end.journal (post_at _ _ _ _ (runs_extend w g.by.tables span o.runs h) d.is).0
         (done_extends g f block i.inner i.rest i.means)
 
     -- where no entry was filled on the way, the same are left
@@ -185,11 +186,11 @@ module _ {g : Replayed} {f : Finishing g} {labels : List ℕ} {store : List (Lis
         let e = same_first o.state.journal i.goes.state.journal x.more js (sym x.is ∙ i.left) l in
         rw e i.left
 
-  module _ (terms : Terms) (served : Served g.first.table g.first.judges (header_at g.sheet block) terms) where
+  module _ (terms : Terms) (served : Served g.by.order g.by.judges (header_at g.sheet block) terms) where
     abbrev pub by : Given
-    by = given terms g.first.table.masks g.tables g.first.budget
+    by = given terms g.by.order.masks g.by.tables g.by.budget
 
-    pub serves : Serves w terms g.first.table.masks
+    pub serves : Serves w terms g.by.order.masks
     serves = rw (← i.heads) at served w (is_under g f block i.header i.region)
 
     pub allows : (n : ℕ) → n ≤ f.limits.entries → Allows w by n
@@ -208,16 +209,16 @@ module _ {g : Replayed} {f : Finishing g} {labels : List ℕ} {store : List (Lis
           within = i.within;
         }
 
-    module _ (labels' : List ℕ) (store' : List (List ℕ)) where
+    module _ (labels' : List ℕ) (store' : List HeldSlot) where
       -- the block's end: the next one is left to play
       module _ (row' steps' free' : ℕ) (e : row' ≡ i.span.last) (d : DoneAs w i.room store' steps' free' i.inner) where
         abbrev pub after : From
         after = record { block = block + 1; row = row' + 1; steps = steps'; free = f.limits.entries - i.room }
 
         filled : Extends i.goes.state.journal d.state.journal × (d.state.steps ≤ w.limits.budget)
-        filled = post_at _ _ _ _ (runs_extend w g.tables i.span i.goes.runs within_budget) d.means
+        filled = post_at _ _ _ _ (runs_extend w g.by.tables i.span i.goes.runs within_budget) d.means
 
-        pub done_left : (l : LeftToPlay f.tables f.rules f.limits (played_by g) g.sheet (k_of g.sheet) after store' (ok f.end))
+        pub done_left : (l : LeftToPlay f.tables f.rules f.limits g.by g.sheet (k_of g.sheet) after store' (ok f.end))
             × (f.end.journal ≡ l.state.journal ++ js)
         unfolding refused_as ◌>>=◌
         done_left =
@@ -301,7 +302,7 @@ module _ {g : Replayed} {f : Finishing g} {labels : List ℕ} {store : List (Lis
             }
 
         -- it is the next write, and the rest is left
-        module _ (y : Entry) (es : List Entry) (e : js ≡ y ∷ es) (store'' : List (List ℕ)) (z : Entry) (m : Makes by here block store'' z) where
+        module _ (y : Entry) (es : List Entry) (e : js ≡ y ∷ es) (store'' : List HeldSlot) (z : Entry) (m : Makes by here block store'' z) where
           pub made_next : (z ≡ y) × Inside g f labels' store'' es block (row' + 1) (steps' + 1)
           made_next =
               let o = there.goes in

@@ -2,12 +2,14 @@
 use Prim.Native.Nat.{ℕ, zero, suc, ◌+◌, ◌≤◌, ◌<◌}
 use mathlib.Core.Path.{◌≡◌, refl, sym, ap, ◌∙◌}
 use mathlib.Core.Bool.{Bool, true, false}
-use mathlib.Core.List.{List, []}
+use mathlib.Core.List.{List, ◌++◌}
 use native.Mathlib.Omega.{arith}
 use native.Mathlib.Decide.{dec_lt}
 use borrow.Author.Tests.{lt-ltb, le-ltb, ltb-true, leb-true}
 use lib.Dec.{ltb}
-use lib.ListN.{length, get_or, set, get_or-eq_default}
+use lib.ListN.{length, get_or, set, get_or-eq_default, get_or-append}
+use Rattle.store.specs.declared.HeldSlot.{HeldSlot}
+use Rattle.std.proofs.lemmas.List.{set-append_left}
 use Rattle.lattice.specs.Tests.{◌or◌}
 use Rattle.lattice.proofs.Tests.{and_l, and_r, iff, every_at}
 use Rattle.values.specs.Bytes.{entries, table}
@@ -15,9 +17,9 @@ use Rattle.values.specs.Value.{well_formed, Slot, opened, empty_slot}
 use Rattle.values.proofs.Bytes.{formed_more}
 use Rattle.values.proofs.BytesArrays.{table_at, table_same, pick, length_filled, entry_at}
 use Rattle.store.specs.Sheet.{Tables, owner_of, most_slots}
-use Rattle.store.specs.HeldStore.{row_of, held_of}
+use Rattle.store.specs.HeldStore.{row_of, empty_row, held_of}
 use Rattle.calculus.specs.Calculus.{Store, contents}
-use Rattle.calculus.specs.Counts.{total, count_at}
+use Rattle.store.specs.Counts.{total, count_at}
 use Rattle.pausing.specs.Stretches.{slot_in, store_in, output_good}
 use Rattle.machine.specs.MachineNumbers.{StoreHeld}
 use Rattle.runner.specs.OldOutput.{OpensOutput}
@@ -26,15 +28,6 @@ use Rattle.machine.proofs.SlotRowWrite.{table_set}
 -- Counts
 
 module _ (f : ℕ → ℕ) where
-  -- a loop adds the first number of those that are left, until none is
-  pub total_next : (sum i r r' : ℕ) → r ≡ suc r' → sum + total (entries i r f) ≡ sum + f i + total (entries (i + 1) r' f)
-  unfolding entries total
-  total_next sum i r r' p = rw p (omega arith)
-
-  pub total_done : (sum i r : ℕ) → r ≡ 0 → sum + total (entries i r f) ≡ sum
-  unfolding entries total
-  total_done sum i r p = rw p (omega arith)
-
   -- each number is at most the total
   total_from : (i n k : ℕ) → k < n → f (i + k) ≤ total (entries i n f)
   unfolding entries total
@@ -98,7 +91,7 @@ module _ (w : Tables) (s : Store) (out : List ℕ) where
   slot_after i k = pick (ltb k i) (slot_in out k) (get_or s k empty_slot)
 
   -- the rows then
-  unfoldable pub rows_after : ℕ → List (List ℕ)
+  unfoldable pub rows_after : ℕ → List HeldSlot
   rows_after i = table most_slots λ k. row_of (slot_after i k) (owner_of w k)
 
   -- a loop's start, its turn, which keeps the owner that the row names, and its end
@@ -106,17 +99,24 @@ module _ (w : Tables) (s : Store) (out : List ℕ) where
   unfolding held_of rows_after pick
   rows_none = table_same most_slots _ _ (λ k h. rw (le-ltb k 0 (omega arith)))
 
-  owner_kept : (i : ℕ) → i < most_slots → get_or (get_or (rows_after i) i []) 2 0 ≡ owner_of w i
+  owner_kept : (i : ℕ) → i < most_slots → (get_or (rows_after i) i empty_row).owner ≡ owner_of w i
   unfolding rows_after row_of
-  owner_kept i h = ap (λ (r : List ℕ). get_or r 2 0) (table_at most_slots (λ k. row_of (slot_after i k) (owner_of w k)) [] i h)
+  owner_kept i h = ap (λ (r : HeldSlot). r.owner) (table_at most_slots (λ k. row_of (slot_after i k) (owner_of w k)) empty_row i h)
 
-  pub rows_next : (i : ℕ) → i < most_slots → set (rows_after i) i (row_of (slot_in out i) (get_or (get_or (rows_after i) i []) 2 0)) ≡ rows_after (i + 1)
+  rows_next : (i : ℕ) → i < most_slots → set (rows_after i) i (row_of (slot_in out i) ((get_or (rows_after i) i empty_row).owner)) ≡ rows_after (i + 1)
   unfolding rows_after pick
   rows_next i h =
       rw (owner_kept i h)
       (table_set most_slots _ _ i _
       (λ k e. ap (λ (b : Bool). row_of (pick b (slot_in out k) (get_or s k empty_slot)) (owner_of w k)) (others i k e))
       (rw (lt-ltb i (i + 1) (omega arith))))
+
+  -- the same where the rows in turn are the first of a list
+  pub rows_turn : (i : ℕ) (xs ys : List HeldSlot) → i < length xs → i < most_slots → xs ++ ys ≡ rows_after i
+      → set xs i (row_of (slot_in out i) ((get_or xs i empty_row).owner)) ++ ys ≡ rows_after (i + 1)
+  rows_turn i xs ys l h e =
+      let o : get_or xs i empty_row ≡ get_or (rows_after i) i empty_row = sym (get_or-append xs ys empty_row i l) ∙ ap (λ (z : List HeldSlot). get_or z i empty_row) e in
+      rw (o, ← set-append_left xs ys i (row_of (slot_in out i) ((get_or (rows_after i) i empty_row).owner)) l, e) (rows_next i h)
 
   pub rows_done : (m : ℕ) → ((i : ℕ) → m ≤ i → get_or s i empty_slot ≡ empty_slot) → rows_after m ≡ held_of w (store_in m out)
   unfolding held_of rows_after store_in pick
@@ -129,7 +129,7 @@ module _ (w : Tables) (s : Store) (out : List ℕ) where
       filled_or k (no h) = rw (empty k (omega arith))
 
 -- A good output that was opened is held.
-pub output_held : (m steps : ℕ) (out : List ℕ) (held held' : List (List ℕ)) → OpensOutput m out held held' → output_good m out steps ≡ true
+pub output_held : (m steps : ℕ) (out : List ℕ) (held held' : List HeldSlot) → OpensOutput m out held held' → output_good m out steps ≡ true
     → m ≤ most_slots → (w : Tables) (s : Store) → held ≡ held_of w s → ((i : ℕ) → m ≤ i → get_or s i empty_slot ≡ empty_slot)
     → StoreHeld w (store_in m out) held'
 output_held m steps out held held' opens good few w s same empty =

@@ -9,9 +9,11 @@ use lib.ListN.{length, get_or, length-append, get_or-append}
 use lib.Seq.{get_or-append-add}
 use lib.Dec.{eqb, ltb, leb}
 use borrow.Author.Tests.{eqb-true, eqb-false, ltb-true, ltb-false, leb-true, leb-false}
+use Rattle.syntax.specs.declared.Row.{Row}
 use Rattle.lattice.specs.Order.{Label}
 use Rattle.syntax.specs.Syntax.{Expr, Cmd, cmd, Body, skip, assign, seq, if, while, Cmds, nil, cons}
-use Rattle.syntax.specs.Rows.{Compiled, assign_kind, guard_kind, jump_kind, guard_row, jump_row, end_row, operands_of, cmd_operands, between, past, size, size_body, size_all, rows_of, rows_body, rows_all}
+use Rattle.syntax.specs.declared.Compiled.{Compiled}
+use Rattle.syntax.specs.Rows.{kind_of, assign_kind, guard_kind, jump_kind, guard_row, jump_row, end_row, operands_of, cmd_operands, between, past, size, size_body, size_all, rows_of, rows_body, rows_all}
 use Rattle.syntax.proofs.Rows.{rows_length}
 use Rattle.calculus.specs.Calculus.{choose}
 use Rattle.pausing.specs.Paths.{Open}
@@ -20,33 +22,33 @@ use Rattle.pausing.specs.RowPaths.{Found, later, entry, path_to, path_body, find
 use Rattle.paths.specs.CodeLayout.{Stepping, SteppingBody, SteppingAll}
 
 -- The i-th of some rows is no jump.
-abbrev Row : List (List ℕ) → ℕ → Type 0
-Row rows i = get_or (get_or rows i []) 0 0 ≡ jump_kind → ⊥
+abbrev NoJump : List Row → ℕ → Type 0
+NoJump rows i = kind_of (get_or rows i end_row) ≡ jump_kind → ⊥
 
-row_front : (xs ys : List (List ℕ)) (i : ℕ) → i < length xs → Row (xs ++ ys) i → Row xs i
-row_front xs ys i h f = rw (sym (get_or-append xs ys [] i h)) f
+row_front : (xs ys : List Row) (i : ℕ) → i < length xs → NoJump (xs ++ ys) i → NoJump xs i
+row_front xs ys i h f = rw (sym (get_or-append xs ys end_row i h)) f
 
-row_rest : (xs ys : List (List ℕ)) (i j : ℕ) → i ≡ length xs + j → Row (xs ++ ys) i → Row ys j
-row_rest xs ys i j h f = rw (sym (get_or-append-add xs ys j [])) (rw h at f)
+row_rest : (xs ys : List Row) (i j : ℕ) → i ≡ length xs + j → NoJump (xs ++ ys) i → NoJump ys j
+row_rest xs ys i j h f = rw (sym (get_or-append-add xs ys j end_row)) (rw h at f)
 
-row_tail : (x : List ℕ) (xs : List (List ℕ)) (i : ℕ) → 0 < i → Row (x ∷ xs) i → Row xs (i - 1)
+row_tail : (x : Row) (xs : List Row) (i : ℕ) → 0 < i → NoJump (x ∷ xs) i → NoJump xs (i - 1)
 row_tail x xs zero h f = absurd (omega arith)
 row_tail x xs (suc i) h f = let e : suc i - 1 ≡ i = omega arith in rw e f
 
 -- past the jump between an if's parts, where there is one
-row_past : (n after : ℕ) (ys : List (List ℕ)) (j : ℕ) → j < between n + n → Row (past n after ++ ys) j → (between n ≤ j) × Row ys (j - between n)
-unfolding between past
+row_past : (n after : ℕ) (ys : List Row) (j : ℕ) → j < between n + n → NoJump (past n after ++ ys) j → (between n ≤ j) × NoJump ys (j - between n)
+unfolding between past kind_of
 row_past zero after ys j h f = absurd (omega arith)
 row_past (suc n) after ys zero h f = absurd (f refl)
 row_past (suc n) after ys (suc j) h f = let e : suc j - 1 ≡ j = omega arith in (omega arith, rw e f)
 
 mutual
-  unfolding size size_body size_all rows_of rows_body rows_all Stepping SteppingBody SteppingAll
+  unfolding kind_of size size_body size_all rows_of rows_body rows_all Stepping SteppingBody SteppingAll
 
-  rows_step : (c : Cmd) (depth r o i : ℕ) → i < size c → Row (rows_of c depth r o) i → Stepping c i
+  rows_step : (c : Cmd) (depth r o i : ℕ) → i < size c → NoJump (rows_of c depth r o) i → Stepping c i
   rows_step (cmd at b) depth r o i h f = body_step b at depth r o i h f
 
-  body_step : (b : Body) (at depth r o i : ℕ) → i < size_body b → Row (rows_body b at depth r o) i → SteppingBody b i
+  body_step : (b : Body) (at depth r o i : ℕ) → i < size_body b → NoJump (rows_body b at depth r o) i → SteppingBody b i
   body_step skip at depth r o i h f = absurd (omega arith)
   body_step (assign x v) at depth r o i h f = omega arith
   body_step (seq cs) at depth r o i h f = all_step cs depth r o i h f
@@ -57,7 +59,7 @@ mutual
       let second = rows_of d (depth + 1) other (inner + length (cmd_operands c)) in
       let rest = past (size d) (other + size d) ++ second in
       let l : length first ≡ size c = rows_length c (depth + 1) (r + 1) inner in
-      let tail : 0 < i → Row (first ++ rest) (i - 1) = λ z. row_tail (guard_row depth at o other) (first ++ rest) i z f in (
+      let tail : 0 < i → NoJump (first ++ rest) (i - 1) = λ z. row_tail (guard_row depth at o other) (first ++ rest) i z f in (
         λ z u. rows_step c (depth + 1) (r + 1) inner (i - 1) (omega arith) (row_front first rest (i - 1) (omega arith) (tail z)),
         λ z. let q = row_past (size d) (other + size d) second (i - 1 - size c) (omega arith) (row_rest first rest (i - 1) (i - 1 - size c) (omega arith) (tail (omega arith))) in
             let e : i - 1 - size c - between (size d) ≡ i - (1 + size c + between (size d)) = omega arith in
@@ -71,7 +73,7 @@ mutual
       let n : i ≡ 1 + size c → ⊥ = λ e. row_rest first (jump_row r ∷ []) (i - 1) 0 (omega arith) tail refl in
       rows_step c (depth + 1) (r + 1) inner (i - 1) (omega (arith, n)) (row_front first (jump_row r ∷ []) (i - 1) (omega (arith, n)) tail)
 
-  all_step : (cs : Cmds) (depth r o i : ℕ) → i < size_all cs → Row (rows_all cs depth r o) i → SteppingAll cs i
+  all_step : (cs : Cmds) (depth r o i : ℕ) → i < size_all cs → NoJump (rows_all cs depth r o) i → SteppingAll cs i
   all_step nil depth r o i h f = absurd (omega arith)
   all_step (cons c cs) depth r o i h f =
       let first = rows_of c depth r o in
@@ -89,8 +91,8 @@ block_steps t r o c i b h k =
     let first = rows_of c 0 r o in
     let l : length first ≡ size c = rows_length c 0 r o in
     let m = length-append first (end_row ∷ []) in
-    let e = b.rows.at i (omega (arith, m)) ∙ get_or-append first (end_row ∷ []) [] i (omega arith) in
-    rows_step c 0 r o i h (λ z. let y : kind_at t (r + i) ≡ jump_kind = ap (λ (x : List ℕ). get_or x 0 0) e ∙ z in ⊎_elim (λ q. omega (arith, q, y)) (λ q. omega (arith, q, y)) k)
+    let e = b.rows.at i (omega (arith, m)) ∙ get_or-append first (end_row ∷ []) end_row i (omega arith) in
+    rows_step c 0 r o i h (λ z. let y : kind_at t (r + i) ≡ jump_kind = ap kind_of e ∙ z in ⊎_elim (λ q. omega (arith, q, y)) (λ q. omega (arith, q, y)) k)
 
 -- The path to a row that takes a step leads back to the row, and has the labels by depth.
 module _ (l : List Label) where

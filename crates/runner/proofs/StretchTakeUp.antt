@@ -3,6 +3,8 @@ use Prim.Native.Nat.{ℕ, zero, suc, ◌+◌, ◌≤◌, ◌<◌}
 use mathlib.Core.Path.{◌≡◌, refl, sym, ap, ◌∙◌}
 use mathlib.Core.Bool.{Bool, true, false}
 use mathlib.Core.Logic.{inr, ⊎_elim}
+use Rattle.store.specs.declared.HeldSlot.{HeldSlot}
+use Rattle.std.proofs.Common.{Option, None, Some}
 use mathlib.Core.List.{List, [], ◌∷◌}
 use native.Mathlib.Omega.{arith}
 use lib.ListN.{length, drop, drop_of_length-le}
@@ -16,7 +18,8 @@ use Rattle.store.specs.Sheet.{Tables, Opening, most_slots}
 use Rattle.syntax.specs.Syntax.{Cmd, cmd, Body, skip, assign, seq, if, while, Cmds, nil, cons}
 use Rattle.syntax.specs.Code.{read_block}
 use Rattle.syntax.specs.Sheet.{Block, k_of, code_of, lent}
-use Rattle.syntax.specs.Rows.{Compiled, between, size, most_rows}
+use Rattle.syntax.specs.declared.Compiled.{Compiled}
+use Rattle.syntax.specs.Rows.{between, size, most_rows}
 use Rattle.syntax.proofs.RunningStarts.{programmed}
 use Rattle.calculus.specs.Rules.{RuleSet}
 use Rattle.calculus.specs.Calculus.{Limits, limits, State, choose}
@@ -25,15 +28,13 @@ use Rattle.pausing.specs.Paths.{Open, take_up}
 use Rattle.pausing.specs.Stretches.{steps_in, block_in, path_in, store_in, output_good, path_good, checkpoint_good, checkpoint, position_of, standing, halted_in, take_up_blocks}
 use Rattle.machine.specs.declared.rules.Judges.{Judges}
 use Rattle.runner.specs.declared.stretches.Located.{Located}
-use Rattle.runner.specs.declared.stretches.Resumed.TheVariants as r
-use Rattle.paths.specs.declared.checkpoint.Found.{Found}
-use Rattle.paths.specs.declared.checkpoint.Found.TheVariants as f
+use Rattle.machine.specs.declared.blocks.Place.{Place}
 use Rattle.machine.specs.CompiledRuns.{rows_before}
 use Rattle.pausing.specs.RowPaths.{row_to, row_body, row_in}
 use Rattle.runner.specs.OldOutput.{OpensOutput}
 use Rattle.runner.specs.WholeRun.{Prepared}
 use Rattle.paths.specs.Checkpoint.{takes_up, TakenUp, Resumes, CanResume}
-use Rattle.runner.specs.StretchRun.{CanLocate, LiesAt, Locates, TakenUpAt, ResumedAs, CanTakeUp, TakesUp}
+use Rattle.runner.specs.StretchRun.{CanLocate, LiesAt, Locates, StandsAt, ResumedAs, CanTakeUp, TakesUp}
 use Rattle.machine.proofs.BlockRuns.{everywhere_held, drop_none, block_of}
 use Rattle.machine.proofs.RuleTerms.{top_held}
 use Rattle.machine.proofs.MachineRows.{run_inside}
@@ -95,12 +96,12 @@ unfolding ◌and◌
 false_and true b e = e
 false_and false b e = refl
 
--- what `resume` answered
-bad_path : {t t' : Table} {c : Cmd} {sheet held : List ℕ} → t ≡ t' → Resumes t c sheet held f.Bad → takes_up t' c sheet ≡ false
-bad_path q (Resumes.bad e) = rw q at e
+-- what `resume` answered, by the order table of the definitions
+bad_path : {t t' : Table} (c : Cmd) (sheet held : List ℕ) → t ≡ t' → Resumes t c sheet held None → takes_up t' c sheet ≡ false
+bad_path c sheet held q e = rw q at e
 
-found_path : {t t' : Table} {c : Cmd} {sheet held : List ℕ} {row : ℕ} → t ≡ t' → Resumes t c sheet held (f.At row) → TakenUp t' c sheet held row
-found_path q (Resumes.found x) = rw q at x
+found_path : {t t' : Table} (c : Cmd) (sheet held : List ℕ) (row : ℕ) → t ≡ t' → Resumes t c sheet held (Some row) → TakenUp t' c sheet held row
+found_path c sheet held row q x = rw q at x
 
 pub both_true : (a b : Bool) → a ≡ true → b ≡ true → (a and b) ≡ true
 unfolding ◌and◌
@@ -113,7 +114,7 @@ unrolled : (w : Tables) (rules : RuleSet) (l : Limits) (i i' : ℕ) (bs : List B
 unfolding take_up_blocks
 unrolled w rules l i i' bs b rest p s e q = rw (← e, q)
 
-module _ (t : Opened) (p : List ℕ) (out sheet : List ℕ) (held : List (List ℕ)) where
+module _ (t : Opened) (p : List ℕ) (out sheet : List ℕ) (held : List HeldSlot) where
   module _ {rules : RuleSet} {o : Opening} {bs : List Block} {j : Judges} {tables : Compiled} (x : Prepared rules o bs t j p tables) where
     -- as many blocks as the sheet says
     count : length bs ≡ k_of p
@@ -145,14 +146,14 @@ module _ (t : Opened) (p : List ℕ) (out sheet : List ℕ) (held : List (List �
     good_in i n e = rw (← e, n.listed)
 
   -- a block number that is not below k
-  pub no_block : (i : ℕ) (labels' : List ℕ) → k_of p ≤ i → i ≡ block_in sheet → TakesUp t p out sheet held labels' held r.Bad
+  pub no_block : (i : ℕ) (labels' : List ℕ) → k_of p ≤ i → i ≡ block_in sheet → TakesUp t p out sheet held labels' held None
   unfolding ResumedAs checkpoint_good path_good
   no_block i labels' h e rules o bs j tables v x =
       let z : drop (block_in sheet) bs ≡ [] = drop_of_length-le bs {i = block_in sheet} (omega (arith, count x, e)) in
       rw z (and_false _ _ (false_and _ _ refl))
 
   -- an output that is not good
-  pub no_output : (labels' : List ℕ) (steps : ℕ) → steps ≡ steps_in sheet → output_good t.slots out steps ≡ false → TakesUp t p out sheet held labels' held r.Bad
+  pub no_output : (labels' : List ℕ) (steps : ℕ) → steps ≡ steps_in sheet → output_good t.slots out steps ≡ false → TakesUp t p out sheet held labels' held None
   unfolding ResumedAs checkpoint_good
   no_output labels' steps e q rules o bs j tables v x = false_and _ _ (rw (prepared_slots x, e) at q)
 
@@ -191,21 +192,24 @@ module _ (t : Opened) (p : List ℕ) (out sheet : List ℕ) (held : List (List �
           }
 
     module _ (labels' : List ℕ) where
-      abbrev Resuming : Found → Type 0
+      abbrev Resuming : Option ℕ → Type 0
       Resuming z = (slots : ℕ) (c : Cmd) → read_block slots (lent p at.start at.end) ≡ ok c → Resumes t.table c sheet labels' z
 
       -- a path that leads nowhere
-      pub no_path : Resuming f.Bad → TakesUp t p out sheet held labels' held r.Bad
+      pub no_path : Resuming None → TakesUp t p out sheet held labels' held None
       unfolding ResumedAs
       no_path z rules o bs j tables v x =
-          good_in x i (nth x i h) e ∙ and_false _ _ (bad_path (prepared_order x) (z _ _ (reads x)))
+          good_in x i (nth x i h) e ∙ and_false _ _ (bad_path (nth x i h).block.command sheet labels' (prepared_order x) (z _ _ (reads x)))
 
-      module _ (row steps : ℕ) (held' : List (List ℕ)) (z : Resuming (f.At row)) (s : steps ≡ steps_in sheet) (good : output_good t.slots out steps ≡ true) (opens : OpensOutput t.slots out held held') where
-        pub taken_up : TakesUp t p out sheet held labels' held' (r.At i (at.row + row) steps)
+      module _ (row steps : ℕ) (held' : List HeldSlot) (z : Resuming (Some row)) (s : steps ≡ steps_in sheet) (good : output_good t.slots out steps ≡ true) (opens : OpensOutput t.slots out held held') where
+        abbrev there : Place
+        there = record { block = i; row = at.row + row; steps = steps; free = most_budget }
+
+        pub taken_up : TakesUp t p out sheet held labels' held' (Some there)
         unfolding ResumedAs
         taken_up rules o bs j tables v x =
             let n = nth x i h in
-            let u = found_path (prepared_order x) (z _ _ (reads x)) in
+            let u = found_path n.block.command sheet labels' row (prepared_order x) (z _ _ (reads x)) in
             let q : output_good o.tables.slots out (steps_in sheet) ≡ true = rw (prepared_slots x, s) at good in
             let state : State = record { store = store_in o.tables.slots out; steps = steps_in sheet; journal = [] } in
             let a = block_of tables 0 0 i bs n.block n.rest x.taken.stand n.listed in
@@ -251,6 +255,6 @@ module _ (t : Opened) (p : List ℕ) (out sheet : List ℕ) (held : List (List �
         pub taken_few : (labels : List ℕ) → CanTakeUp t p out sheet labels held → at.row + row < most_rows
         unfolding ResumedAs
         taken_few labels c =
-            let u : TakenUpAt c.rules c.opening c.blocks t c.judges p c.tables out sheet labels' held' i (at.row + row) steps =
+            let u : StandsAt c.rules c.opening c.blocks t c.judges p c.tables (checkpoint out sheet) labels' held' there =
             taken_up c.rules c.opening c.blocks c.judges c.tables c.opening_held c.prepared in
             ⊎_elim (λ y. absurd (omega (arith, h, y.over))) (λ y. run_inside y.goes.runs) (u.along steps (omega arith)).left

@@ -1,46 +1,55 @@
 -- A programme that was taken in and played: what playing it needs, and what its end writes. Serves `finish`. Assumes nothing.
 use Prim.Native.Nat.{ℕ, zero, suc, ◌+◌, ◌-◌, ◌*◌, ◌/◌, ◌≤◌, ◌<◌, min}
 use mathlib.Core.Path.{◌≡◌, refl, sym, ap, ap₂, ◌∙◌}
-use mathlib.Core.Logic.{inl}
 use mathlib.Core.List.{List, [], ◌∷◌, ◌++◌}
 use native.Mathlib.Omega.{arith}
 use lib.ListN.{length, get_or}
+use lib.Dec.{eqb}
+use mathlib.Core.Bool.{true}
+use borrow.Author.Tests.{eq-eqb, ne_eqb}
+use Rattle.store.specs.declared.HeldSlot.{HeldSlot}
 use Rattle.values.specs.declared.Answer.{Answer}
 use Rattle.values.specs.declared.Entry.{Entry}
-use Rattle.values.specs.Result.{Result, ok, refuse, ◌>>=◌, refused_as}
+use Rattle.values.specs.Result.{Result, ok, refuse, ◌>>=◌, require, refused_as, says, unplaced}
 use Rattle.values.specs.Value.{Slot, empty_slot, slot_width, slot_bytes, value_bytes}
 use Rattle.values.proofs.Result.{not_both}
 use Rattle.values.proofs.BytesArrays.{table_at}
 use Rattle.values.proofs.BytesWritten.{sets_whole}
 use Rattle.store.specs.declared.Opened.{Opened}
 use Rattle.store.specs.Sheet.{Tables, Opening, owner_of, most_slots, slots_bytes}
-use Rattle.store.specs.HeldStore.{opened_of, held_of, row_of, row_bytes, rows_bytes, fitting, out_after}
+use Rattle.store.specs.HeldStore.{opened_of, held_of, row_of, empty_row, row_bytes, rows_bytes, fitting, out_after}
 use Rattle.store.proofs.HeldStoreOutput.{length_rows}
 use Rattle.syntax.specs.Syntax.{Cmd}
 use Rattle.syntax.specs.Code.{read_block}
 use Rattle.syntax.specs.Sheet.{Block, k_of, code_at, header_at, code_of, in_block, block_at, blocks_from}
-use Rattle.syntax.specs.Rows.{Compiled}
+use Rattle.syntax.specs.declared.Compiled.{Compiled}
 use Rattle.syntax.proofs.RunningStarts.{programmed}
 use Rattle.calculus.specs.Rules.{RuleSet}
 use Rattle.calculus.specs.Calculus.{Limits, limits, State}
 use Rattle.calculus.specs.Blocks.{Halt, halt_answer, run_blocks, start}
 use Rattle.pausing.specs.Stretches.{Halted, take_up_blocks}
 use Rattle.pausing.proofs.PathsAsideBlocks.{halt_of, blocks_aside}
-use Rattle.calculus.specs.Run.{Finished, run_programme, answer_of, output_of, entries_of}
+use Rattle.calculus.specs.Run.{run_programme, answer_of, output_of, entries_of}
 use Rattle.machine.specs.declared.rules.Judges.{Judges}
-use Rattle.runner.specs.declared.journal.First.{First}
 use Rattle.machine.specs.declared.blocks.Place.{Place}
-use Rattle.machine.specs.declared.blocks.Ended.{Ended}
-use Rattle.machine.specs.declared.blocks.Ended.TheVariants as e
+use Rattle.std.proofs.Common.{Ok, Err}
+use Rattle.std.specs.Prelude as std
+use Rattle.machine.specs.declared.blocks.Finished.{Finished}
+use Rattle.machine.specs.declared.blocks.Halted.{Halted as Halting}
+use Rattle.values.specs.Refusal.{number, placed, answer_in}
+use Rattle.values.specs.declared.refusal.Refused.{Refused}
+use Rattle.values.specs.declared.refusal.Refusal.TheVariants as r
+use Rattle.machine.specs.BlockRuns.{judging_of, EndedAs, finished, halted, PlaysOn}
 use Rattle.lattice.specs.HeldLabels.{top_mask}
 use Rattle.machine.specs.MachineNumbers.{StoreHeld}
 use Rattle.machine.specs.CompiledRuns.{rows_before}
-use Rattle.machine.specs.BlockRuns.{judges_of, Played, played, HeadersAt, AllUnder, opening_place, LeftToPlay, Loaded, ToPlay, PausesAs, EndedAs, finished, halted, PlaysOn, CanPlayOn}
-use Rattle.runner.specs.Journal.{Nothing, replayed, opening_seat, opens, played_by, Left}
+use Rattle.machine.specs.BlockRuns.{Played, HeadersAt, AllUnder, opening_place, LeftToPlay, Loaded, ToPlay, PausesAs, CanPlayOn}
+use Rattle.runner.specs.Journal.{replayed, opens, Finishing, Left}
+use Rattle.runner.proofs.JournalBlocks.{entered}
 use Rattle.machine.proofs.RuleTerms.{top_held}
 use Rattle.machine.proofs.BlockRuns.{everywhere}
 use Rattle.machine.proofs.BlockRunsLoop.{at_start}
-use Rattle.runner.specs.WholeRun.{Passes, OpeningHeld, TakenIn, Prepared, Finishes, CanFinish}
+use Rattle.runner.specs.WholeRun.{Passes, opened, OpeningHeld, TakenIn, Prepared, Finishes, CanFinish}
 
 -- the next block of a programme that was read
 pub record Next (slots : ℕ) (p : List ℕ) (n i : ℕ) (bs : List Block) : Type 0 where
@@ -87,46 +96,46 @@ rows_bytes_law : (w : Tables) (s : List Slot) (i n : ℕ) → i + n ≤ most_slo
 unfolding rows_bytes slots_bytes held_of row_bytes row_of slot_bytes value_bytes
 rows_bytes_law w s i zero h = refl
 rows_bytes_law w s i (suc n) h =
-    ap₂ (λ (x y : List ℕ). x ++ y) (ap row_bytes (table_at most_slots (λ j. row_of (get_or s j empty_slot) (owner_of w j)) [] i (omega arith)))
+    ap₂ (λ (x y : List ℕ). x ++ y) (ap row_bytes (table_at most_slots (λ j. row_of (get_or s j empty_slot) (owner_of w j)) empty_row i (omega arith)))
     (rows_bytes_law w s (i + 1) n (omega arith))
 
 -- an output with room for just m slots is written whole
-written_whole : (held : List (List ℕ)) (m : ℕ) (old : List ℕ) → m ≤ most_slots → length old ≡ slot_width * m → out_after held (fitting m (length old)) old ≡ rows_bytes held 0 m
+written_whole : (held : List HeldSlot) (m : ℕ) (old : List ℕ) → m ≤ most_slots → length old ≡ slot_width * m → out_after held (fitting m (length old)) old ≡ rows_bytes held 0 m
 unfolding out_after fitting
 written_whole held m old small room =
     let n : min (min m most_slots) (length old / slot_width) ≡ m = omega arith in
     rw n (sets_whole old (rows_bytes held 0 m) (room ∙ sym (length_rows held 0 m)))
 
 -- the output of a store that is held
-pub output_written : (w : Tables) (s : List Slot) (held : List (List ℕ)) (m n : ℕ) (old out : List ℕ) → StoreHeld w s held → m ≤ most_slots → n ≡ m → length old ≡ slot_width * m
+pub output_written : (w : Tables) (s : List Slot) (held : List HeldSlot) (m n : ℕ) (old out : List ℕ) → StoreHeld w s held → m ≤ most_slots → n ≡ m → length old ≡ slot_width * m
     → out ≡ out_after held (fitting n (length old)) old → out ≡ slots_bytes s 0 m
 output_written w s held m n old out h small e room q =
     q ∙ ap (λ (i : ℕ). out_after held (fitting i (length old)) old) e ∙ written_whole held m old small room
-    ∙ ap (λ (y : List (List ℕ)). rows_bytes y 0 m) h.same ∙ rows_bytes_law w s 0 m (omega arith)
+    ∙ ap (λ (y : List HeldSlot). rows_bytes y 0 m) h.same ∙ rows_bytes_law w s 0 m (omega arith)
 
 -- What the end of a run of blocks says
 
-pub record FinishedAs (w : Tables) (l : Limits) (rows : List (List ℕ)) (n free : ℕ) (r : Result Halted State) : Type 0 where
+pub record FinishedAs (w : Tables) (l : Limits) (rows : List HeldSlot) (f : Finished) (r : Result Halted State) : Type 0 where
   pub state : State
   pub held : StoreHeld w state.store rows
-  pub count : state.steps ≡ n
-  pub entries : length state.journal + free ≡ l.entries
+  pub count : state.steps ≡ f.steps
+  pub entries : length state.journal + f.free ≡ l.entries
   pub same : r ≡ ok state
 
-pub ended_finished : {w : Tables} {l : Limits} {g : Played} {bs : List Block} {labels : List ℕ} {rows : List (List ℕ)} {n free : ℕ} {r : Result Halted State}
-    → EndedAs w l g bs labels rows (e.Finished n free) r → FinishedAs w l rows n free r
+pub ended_finished : {w : Tables} {l : Limits} {g : Played} {bs : List Block} {labels : List ℕ} {rows : List HeldSlot} {f : Finished} {r : Result Halted State}
+    → EndedAs w l g bs labels rows (Ok f) r → FinishedAs w l rows f r
 ended_finished (finished {s = s} h c j) = record { state = s; held = h; count = c; entries = j; same = refl }
 
-pub record HaltedAs (w : Tables) (g : Played) (bs : List Block) (labels : List ℕ) (rows : List (List ℕ)) (n b i o t : ℕ) (r : Result Halted State) : Type 0 where
+pub record HaltedAs (w : Tables) (g : Played) (bs : List Block) (labels : List ℕ) (rows : List HeldSlot) (h : Halting) (r : Result Halted State) : Type 0 where
   pub halt : Halted
-  pub says : halt_answer (halt_of halt) ≡ record { number = n; block = b; offset = o; steps = t }
-  pub paused : n ≡ 17 → PausesAs w g bs labels rows i halt
+  pub says : halt_answer (halt_of halt) ≡ answer_in h.refused
+  pub paused : number h.refused.refusal ≡ 17 → PausesAs w g bs labels rows h.row halt
   pub same : r ≡ refuse halt
 
-pub ended_halted : {w : Tables} {l : Limits} {g : Played} {bs : List Block} {labels : List ℕ} {rows : List (List ℕ)} {n b i o t : ℕ} {r : Result Halted State}
-    → EndedAs w l g bs labels rows (e.Halted n b i o t) r → HaltedAs w g bs labels rows n b i o t r
+pub ended_halted : {w : Tables} {l : Limits} {g : Played} {bs : List Block} {labels : List ℕ} {rows : List HeldSlot} {h : Halting} {r : Result Halted State}
+    → EndedAs w l g bs labels rows (Err h) r → HaltedAs w g bs labels rows h r
 unfolding halt_answer
-ended_halted (halted {h = h} x y z u p) = record { halt = h; says = rw (x, y, z, u); paused = p; same = refl }
+ended_halted (halted {h = x} a b c d p) = record { halt = x; says = rw (a, b, c, d); paused = p; same = refl }
 
 -- an opened store and a programme that was taken in can be played
 module _ {rules : RuleSet} {o : Opening} {bs : List Block} {t : Opened} {j : Judges} {p : List ℕ} {tables : Compiled} (x : Prepared rules o bs t j p tables) where
@@ -155,11 +164,11 @@ module _ {rules : RuleSet} {o : Opening} {bs : List Block} {t : Opened} {j : Jud
         }
 
 -- from its opening store
-pub prepared_opening : (o : Opening) (t : Opened) (held : List (List ℕ)) → OpeningHeld o t held → (j : Judges) (rules : RuleSet) → j ≡ judges_of (ok rules) → (p : List ℕ) (tables : Compiled) (bs : List Block)
+pub prepared_opening : (o : Opening) (t : Opened) (held : List HeldSlot) → OpeningHeld o t held → (j : Judges) (rules : RuleSet) → j ≡ judging_of rules → (p : List ℕ) (tables : Compiled) (bs : List Block)
     → TakenIn o p tables bs → Prepared rules o bs t j p tables
 prepared_opening o t held h j rules q p tables bs x = record { opened = h.opened; grounds = h.grounds; small = h.small; judges = q; taken = x }
 
-module _ (o : Opening) (t : Opened) (held : List (List ℕ)) (h : OpeningHeld o t held) (j : Judges) (rules : RuleSet) (q : j ≡ judges_of (ok rules)) (p : List ℕ) (g : Played)
+module _ (o : Opening) (t : Opened) (held : List HeldSlot) (h : OpeningHeld o t held) (j : Judges) (rules : RuleSet) (q : j ≡ judging_of rules) (p : List ℕ) (g : Played)
     (bs : List Block) (x : TakenIn o p g.tables bs) (order : g.order ≡ t.table) (judges : g.judges ≡ j) where
   abbrev prepared : Prepared rules o bs t j p g.tables
   prepared = prepared_opening o t held h j rules q p g.tables bs x
@@ -203,7 +212,7 @@ module _ (o : Opening) (t : Opened) (held : List (List ℕ)) (h : OpeningHeld o 
   sheet_room = prepared_room prepared
 
 -- what is left to play of a run that finishes
-abbrev finishing : {w : Tables} {rules : RuleSet} {l : Limits} {g : Played} {p : List ℕ} {k : ℕ} {from : Place} {held : List (List ℕ)} {whole : Result Halt State}
+abbrev finishing : {w : Tables} {rules : RuleSet} {l : Limits} {g : Played} {p : List ℕ} {k : ℕ} {from : Place} {held : List HeldSlot} {whole : Result Halt State}
     → LeftToPlay w rules l g p k from held whole → (s : State) → whole ≡ ok s → LeftToPlay w rules l g p k from held (ok s)
 finishing l s e =
     record {
@@ -222,107 +231,107 @@ finishing l s e =
       means = l.means ∙ e;
     }
 
--- a run that was refused leaves nothing to make again
-pub refused_passes : (x : Result Answer Finished) (room : ℕ) (p : List ℕ) (t : Compiled) (held : List (List ℕ)) (old : List ℕ) (a : Answer) (r : First)
-    → x ≡ refuse a → Nothing a r → Passes x room p t held old old r
-unfolding answer_of output_of entries_of Left
-refused_passes x room p t held old a r e n =
-    rw e (record { answered = n.answered; written = refl; many = n.none; fits = omega (arith, n.none); left = tt })
-
 -- What the end of the blocks says of the run, for whatever opening and programme stand behind
-module _ (t : Opened) (j : Judges) (budget entries : ℕ) (p : List ℕ) (compiled : Compiled) (held : List (List ℕ)) (k : ℕ) (q : k ≡ k_of p) where
-  abbrev by : Played
-  by = played compiled t.table j budget
+module _ (slots : ℕ) (by : Played) where
+  slots_are : {o : Opening} {held : List HeldSlot} → OpeningHeld o (opened slots by.order) held → slots ≡ o.tables.slots
+  unfolding opened_of
+  slots_are h = ap (λ (z : Opened). z.slots) h.opened
+
+  pub few_slots : {p : List ℕ} {held : List HeldSlot} → CanFinish slots by p held → slots ≤ most_slots
+  few_slots c = omega (arith, c.opening_held.small, slots_are c.opening_held)
+
+module _ (slots : ℕ) (by : Played) (entries : ℕ) (p : List ℕ) (held : List HeldSlot) where
+  -- an output of another length
+  pub finish_room : (old : List ℕ) (e : Refused) → e ≡ placed r.OutputLength 0 0 0 → (length old ≡ slot_width * slots → ⊥) → Finishes slots by entries p held old old (Err e)
+  unfolding Passes require unplaced number
+  finish_room old e i y rules o bs h d x = (rw (ne_eqb (length old) (slot_width * o.tables.slots) (rw (slots_are slots by h) at y), i), refl)
 
   abbrev within : Limits
-  within = limits budget entries
+  within = limits by.budget entries
 
-  module _ (top : ℕ) (f : top ≡ top_mask t.table.n) where
-    pub finish_can : CanFinish t j p compiled held → CanPlayOn by p k (opening_place entries) (everywhere top) held
-    finish_can c =
-        let s = c.start in
-        let o = s.opening in
-        record {
-          tables = o.tables;
-          rules = s.rules;
-          under = all_under o t held s.opening_held j s.rules s.judges p by c.blocks c.taken refl refl;
-          limits = within;
-          blocks = c.blocks;
-          loaded = loaded_all o t held s.opening_held j s.rules s.judges p by c.blocks c.taken refl refl k q;
-          whole = _;
-          left = play_all_law o t held s.opening_held j s.rules s.judges p by c.blocks c.taken refl refl within refl k q top f;
-          count = q;
-          sheet = rw q (sheet_room o t held s.opening_held j s.rules s.judges p by c.blocks c.taken refl refl);
-        }
+  module _ (k : ℕ) (q : k ≡ k_of p) where
+    module _ (top : ℕ) (f : top ≡ top_mask by.order.n) where
+      pub finish_can : CanFinish slots by p held → CanPlayOn by p k (opening_place entries) (everywhere top) held
+      finish_can c =
+          let o = c.opening in
+          record {
+            tables = o.tables;
+            rules = c.rules;
+            under = all_under o _ held c.opening_held by.judges c.rules c.judges p by c.blocks c.taken refl refl;
+            limits = within;
+            blocks = c.blocks;
+            loaded = loaded_all o _ held c.opening_held by.judges c.rules c.judges p by c.blocks c.taken refl refl k q;
+            whole = _;
+            left = play_all_law o _ held c.opening_held by.judges c.rules c.judges p by c.blocks c.taken refl refl within refl k q top f;
+            count = q;
+            sheet = rw q (sheet_room o _ held c.opening_held by.judges c.rules c.judges p by c.blocks c.taken refl refl);
+          }
 
-  module _ (top : ℕ) (f : top ≡ top_mask t.table.n) (labels' : List ℕ) (held' : List (List ℕ)) (old : List ℕ) where
-    module _ (rules : RuleSet) (o : Opening) (bs : List Block) (h : OpeningHeld o t held) (d : j ≡ judges_of (ok rules)) (x : TakenIn o p compiled bs) where
-      abbrev taken_up : Result Halted State
-      taken_up = take_up_blocks o.tables rules within 0 bs [] (start o.store)
+      module _ (labels' : List ℕ) (held' : List HeldSlot) (old : List ℕ) where
+        module _ (rules : RuleSet) (o : Opening) (bs : List Block) (h : OpeningHeld o (opened slots by.order) held) (d : by.judges ≡ judging_of rules) (x : TakenIn o p by.tables bs) where
+          abbrev taken_up : Result Halted State
+          taken_up = take_up_blocks o.tables rules within 0 bs [] (start o.store)
 
-      abbrev whole : Result Halt State
-      whole = run_blocks o.tables rules within 0 bs (start o.store)
+          abbrev whole : Result Halt State
+          whole = run_blocks o.tables rules within 0 bs (start o.store)
 
-      ended : (r : Ended) → PlaysOn by p k (opening_place entries) (everywhere top) held labels' held' r → EndedAs o.tables within by bs labels' held' r taken_up
-      ended r z =
-          z o.tables rules within bs _ (all_under o t held h j rules d p by bs x refl refl) (loaded_all o t held h j rules d p by bs x refl refl k q)
-          (play_all_law o t held h j rules d p by bs x refl refl within refl k q top f)
+          ended : (r : std.Result Finished Halting) → PlaysOn by p k (opening_place entries) (everywhere top) held labels' held' r → EndedAs o.tables within by bs labels' held' r taken_up
+          ended r z =
+              z o.tables rules within bs _ (all_under o _ held h by.judges rules d p by bs x refl refl) (loaded_all o _ held h by.judges rules d p by bs x refl refl k q)
+              (play_all_law o _ held h by.judges rules d p by bs x refl refl within refl k q top f)
 
-      -- without its paths
-      aside : (r : Result Halted State) → taken_up ≡ r → whole ≡ refused_as halt_of r
-      aside r e = sym (blocks_aside o.tables rules within 0 bs (start o.store)) ∙ ap (λ (z : Result Halted State). refused_as halt_of z) e
+          -- without its paths
+          aside : (r : Result Halted State) → taken_up ≡ r → whole ≡ refused_as halt_of r
+          aside r e = sym (blocks_aside o.tables rules within 0 bs (start o.store)) ∙ ap (λ (z : Result Halted State). refused_as halt_of z) e
 
-      -- the writes that a second pass is to make
-      writes_left : (s : State) (r : First) → whole ≡ ok s → r.table ≡ t.table → r.judges ≡ j → r.budget ≡ budget
-          → (js : List Entry) → s.journal ≡ js → Left (replayed p compiled r) (opens held) js
-      unfolding Left opening_seat start left_all
-      writes_left s r e a b c [] m = tt
-      writes_left s r e a b c (y ∷ ys) m =
-          let g = played_by (replayed p compiled r) in
-          inl (record {
-            run =
-                record {
-                  tables = o.tables;
-                  rules = rules;
-                  limits = within;
-                  end = s;
-                  under = all_under o t held h j rules d p g bs x a b;
-                  budget = sym c;
-                  sheet = sheet_room o t held h j rules d p g bs x a b;
-                };
-            is = refl;
-            plays = finishing (left_all o t held h j rules d p g bs x a b within (sym c) (k_of p) refl) s e;
-            left = m;
-          })
+          -- the writes that a second pass is to make
+          writes_left : (s : State) → whole ≡ ok s → (js : List Entry) → s.journal ≡ js → Left (replayed p by) (opens (replayed p by) held) js
+          unfolding Left start left_all
+          writes_left s e [] m = tt
+          writes_left s e (y ∷ ys) m =
+              let run : Finishing (replayed p by) = record {
+                tables = o.tables;
+                rules = rules;
+                limits = within;
+                end = s;
+                under = all_under o _ held h by.judges rules d p by bs x refl refl;
+                budget = refl;
+                sheet = sheet_room o _ held h by.judges rules d p by bs x refl refl;
+              } in
+              let plays = finishing (left_all o _ held h by.judges rules d p by bs x refl refl within refl (k_of p) refl) s e in
+              record { run = run; inside = entered (replayed p by) run (opening_place entries) held y ys plays m }
 
-    pub finish_few : CanFinish t j p compiled held → (n free : ℕ) → PlaysOn by p k (opening_place entries) (everywhere top) held labels' held' (e.Finished n free) → free ≤ entries
-    finish_few c n free y =
-        let s = c.start in
-        omega (arith, (ended_finished (ended s.rules s.opening c.blocks s.opening_held s.judges c.taken (e.Finished n free) y)).entries)
+          room_test : length old ≡ slot_width * slots → eqb (length old) (slot_width * o.tables.slots) ≡ true
+          room_test e = eq-eqb (length old) (slot_width * o.tables.slots) (rw (slots_are slots by h) at e)
 
-    pub finish_done : (n free : ℕ) (out : List ℕ) → PlaysOn by p k (opening_place entries) (everywhere top) held labels' held' (e.Finished n free) → out ≡ out_after held' (fitting t.slots (length old)) old
-        → Finishes t j budget entries p compiled held old out
-        (record { answer = record { number = 0; block = k; offset = 0; steps = n }; writes = entries - free; table = t.table; judges = j; budget = budget })
-    unfolding opened_of run_programme answer_of output_of entries_of refused_as ◌>>=◌
-    finish_done n free out v w rules o bs h d x room =
-        let slots : t.slots ≡ o.tables.slots = ap (λ (z : Opened). z.slots) h.opened in
-        let y = programmed _ _ p bs x.sheet in
-        let z = ended_finished (ended rules o bs h d x (e.Finished n free) v) in
-        let same : whole rules o bs h d x ≡ ok z.state = aside rules o bs h d x _ z.same in
-        let count : length bs ≡ k = blocks_count _ p (k_of p) 0 bs y.reads ∙ sym q in
-        rw same
-        (record {
-          answered = rw (z.count, count) refl;
-          written = output_written o.tables z.state.store held' o.tables.slots t.slots old out z.held h.small slots room w;
-          many = omega (arith, z.entries);
-          fits = omega arith;
-          left = writes_left rules o bs h d x z.state _ same refl refl refl _ refl;
-        })
+        module _ (room : length old ≡ slot_width * slots) where
+          pub finish_few : CanFinish slots by p held → (f : Finished) → PlaysOn by p k (opening_place entries) (everywhere top) held labels' held' (Ok f) → f.free ≤ entries
+          finish_few c f y =
+              omega (arith, (ended_finished (ended c.rules c.opening c.blocks c.opening_held c.judges c.taken (Ok f) y)).entries)
 
-    pub finish_halt : (n b w i m : ℕ) (r : First) → PlaysOn by p k (opening_place entries) (everywhere top) held labels' held' (e.Halted n b w i m)
-        → Nothing (record { number = n; block = b; offset = i; steps = m }) r → Finishes t j budget entries p compiled held old old r
-    unfolding run_programme refused_as ◌>>=◌
-    finish_halt n b w i m r v c rules o bs h d x room =
-        let z = ended_halted (ended rules o bs h d x (e.Halted n b w i m) v) in
-        let same : whole rules o bs h d x ≡ refuse (halt_of z.halt) = aside rules o bs h d x _ z.same in
-        refused_passes _ entries p compiled held old _ r (rw (same, z.says)) c
+          pub finish_done : (f : Finished) (out : List ℕ) → PlaysOn by p k (opening_place entries) (everywhere top) held labels' held' (Ok f)
+              → out ≡ out_after held' (fitting slots (length old)) old → (a : Answer) → a ≡ says 0 (k_of p) 0 f.steps
+              → Finishes slots by entries p held old out (Ok (record { answer = a; writes = entries - f.free }))
+          unfolding Passes require run_programme answer_of output_of entries_of refused_as ◌>>=◌
+          finish_done f out v w a i rules o bs h d x =
+              let y = programmed _ _ p bs x.sheet in
+              let z = ended_finished (ended rules o bs h d x (Ok f) v) in
+              let same : whole rules o bs h d x ≡ ok z.state = aside rules o bs h d x _ z.same in
+              let count : length bs ≡ k_of p = blocks_count _ p (k_of p) 0 bs y.reads in
+              let e = slots_are slots by h in
+              rw (room_test rules o bs h d x room, same)
+              (record {
+                answered = i ∙ rw (z.count, count) refl;
+                written = output_written o.tables z.state.store held' o.tables.slots slots old out z.held h.small e (rw e at room) w;
+                many = omega (arith, z.entries);
+                fits = omega arith;
+                left = writes_left rules o bs h d x z.state same _ refl;
+              })
+
+          pub finish_halt : (y : Halting) → PlaysOn by p k (opening_place entries) (everywhere top) held labels' held' (Err y)
+              → Finishes slots by entries p held old old (Err y.refused)
+          unfolding Passes require run_programme refused_as ◌>>=◌
+          finish_halt y v rules o bs h d x =
+              let z = ended_halted (ended rules o bs h d x (Err y) v) in
+              let same : whole rules o bs h d x ≡ refuse (halt_of z.halt) = aside rules o bs h d x _ z.same in
+              (rw (room_test rules o bs h d x room, same, z.says), refl)

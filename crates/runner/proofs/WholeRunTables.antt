@@ -3,6 +3,7 @@ use Prim.Native.Nat.{ℕ, zero, suc, ◌+◌, ◌≤◌}
 use mathlib.Core.Path.{◌≡◌}
 use mathlib.Core.Bool.{true}
 use mathlib.Core.List.{List}
+use Rattle.store.specs.declared.HeldSlot.{HeldSlot}
 use Rattle.values.specs.declared.Value.{Value}
 use Rattle.values.specs.Result.{ok}
 use Rattle.values.specs.Value.{well_formed}
@@ -14,7 +15,8 @@ use Rattle.store.specs.HeldStore.{opened_of}
 use Rattle.syntax.specs.Syntax.{LiteralsOf}
 use Rattle.syntax.specs.Code.{most_nested}
 use Rattle.syntax.specs.Sheet.{Block, k_of, blocks_from, programme_sheet}
-use Rattle.syntax.specs.Rows.{Compiled, Nests}
+use Rattle.syntax.specs.declared.Compiled.{Compiled}
+use Rattle.syntax.specs.Rows.{Nests}
 use Rattle.programme.specs.CompiledSheet.{Compiles}
 use Rattle.syntax.proofs.CodeWellFormed.{block_literals, block_nests}
 use Rattle.syntax.proofs.SyntaxLiterals.{exprs_join, literals_join}
@@ -22,7 +24,8 @@ use Rattle.syntax.proofs.CodeGuardDepth.{block_shallow}
 use Rattle.syntax.proofs.RowsFitTables.{compiled_fits}
 use Rattle.syntax.proofs.RunningStarts.{programmed}
 use Rattle.machine.specs.CompiledRuns.{Formed, SoundExpr, AllSound, BlocksAt}
-use Rattle.runner.specs.WholeRun.{OpeningHeld, Roomy}
+use Rattle.runner.specs.WholeRun.{OpeningHeld}
+use Rattle.syntax.specs.Rows.{Roomy}
 use Rattle.machine.proofs.CompiledTables.{blocks_stand}
 use Rattle.runner.proofs.WholeRunFinish.{next_block, none_left}
 
@@ -43,10 +46,10 @@ blocks_sound m p (suc n) i bs few h =
       blocks_sound m p n (i + 1) x.rest few x.after,
     )
 
-pub compiled_stands : (t : Opened) (held : List (List ℕ)) (p : List ℕ) (old new : Compiled) → Roomy old → Compiles p (programme_sheet t.table.n t.slots p) old new
+pub compiled_stands : (t : Opened) (held : List HeldSlot) (p : List ℕ) (old new : Compiled) → Roomy old → Compiles p (programme_sheet t.table.n t.slots p) old new
     → (o : Opening) (bs : List Block) → OpeningHeld o t held → programme_sheet o.tables.order.n o.tables.slots p ≡ ok bs → BlocksAt new 0 0 bs
 unfolding Compiles opened_of
 compiled_stands t held p old new room c o bs h e =
     let q = programmed _ _ p bs e in
     let f = compiled_fits _ _ p bs e in
-    blocks_stand new old bs (rw (h.opened, e) at c) room.rows room.operands room.payloads f.0 f.1 (blocks_sound _ p (k_of p) 0 bs h.small q.reads)
+    blocks_stand new old bs (rw (h.opened, e) at c) room.rows room.operands f.0 f.1 (blocks_sound _ p (k_of p) 0 bs h.small q.reads)

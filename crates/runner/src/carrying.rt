@@ -1,14 +1,97 @@
 // The calls of a run in stretches: from its start, and from a checkpoint.
-ghost use Rattle.std.specs.Prelude.{length};
-ghost use Rattle.pausing.specs.Stretches.{opening, checkpoint, stretch, ComesTo};
+ghost use Rattle.std.specs.Prelude.{◌≤◌, length};
+ghost use Rattle.store.specs.Sheet.{most_slots};
+ghost use Rattle.pausing.specs.Stretches.{opening, checkpoint, stretch, run_stretch, ComesTo};
+ghost use Rattle.runner.specs.StretchRun.{from_of, AllFit, CanStand, Stands, EndsWith};
 
-use super::stretches::Resumed;
-use super::{ready, stretches};
+use super::{answered, blocks_of, ready, stretches};
 use machine::blocks;
-use machine::blocks::Place;
+use machine::blocks::{Place, Played};
 use machine::rules::Judges;
-use store::{Answer, Opened};
-use syntax::{Operand, Row};
+use store::{Answer, Held, HeldSlot, Opened};
+use syntax::{Labels, Row};
+use values::{Refusal, Refused};
+
+// Where a stretch goes on from: the opening store; or an old output and its pause sheet, which are only read.
+#[derive(Clone, Copy)]
+pub(crate) enum Origin<'a> {
+    Opening,
+    Checkpoint { output: &'a [u8], sheet: &'a [u8] },
+}
+
+// The same of all that is lent to a stretch.
+fn all_fit(from: Origin, slots: usize, out: usize, pause: usize) -> bool
+    requires { slots ≤ most_slots }
+    ensures { AllFit slots (from_of from.entry) out pause result }
+{
+    let fit = stretches::fitting(out, pause, slots);
+    match from {
+        Origin::Opening => fit,
+        Origin::Checkpoint { output, sheet } => {
+            fit && stretches::fitting(output.len(), sheet.len(), slots)
+        }
+    }
+}
+
+// Where it stands then: at the first block's first row, or where its checkpoint leaves it (19).
+fn stand(
+    programme: &[u8],
+    opened: Opened,
+    from: Origin,
+    labels: &mut Labels,
+    held: &mut Held,
+) -> Result<Place, Refusal>
+    requires { CanStand opened programme.now (from_of from) labels.old held.old }
+    ensures { Stands opened programme.now (from_of from.entry) held.old labels.new held.new result }
+{
+    match from {
+        Origin::Opening => Ok(blocks::opening(Judges::MOST_BUDGET as usize)),
+        Origin::Checkpoint { output, sheet } => {
+            stretches::take_up(programme, opened, output, sheet, labels, held).ok_or(
+                Refusal::Checkpoint,
+            )
+        }
+    }
+}
+
+// A stretch: what every run begins with (11; 1 to 10), the lengths of what is lent (12), the checkpoint (19), then the blocks.
+fn stretch(
+    store: &[u8],
+    programme: &[u8],
+    rule: u32,
+    budget: u32,
+    from: Origin,
+    out: &mut [u8],
+    pause: &mut [u8],
+) -> Result<Answer, Refused>
+    ensures { EndsWith (run_stretch (from_of from.entry) (stretch store.now programme.now rule budget (length out.old) (length pause.old)))
+        out.old pause.old out.new pause.new result }
+{
+    let mut compiled = ready::blank();
+    let mut held = [HeldSlot::EMPTY; Opened::MOST_SLOTS];
+    let ready = ready::prepare(store, programme, rule, budget, &mut compiled, &mut held)?;
+    let opened = ready.opened;
+    if !all_fit(from, opened.slots, out.len(), pause.len()) {
+        return Err(Refused::from(Refusal::OutputLength));
+    }
+    let mut labels = [lattice::top_mask(opened.table.n); Row::DEPTHS];
+    let place = stand(programme, opened, from, &mut labels, &mut held)?;
+    let by = Played {
+        tables: &compiled,
+        order: &opened.table,
+        judges: ready.judges,
+        budget: budget.max(place.steps),
+    };
+    let end = blocks::play_blocks(
+        programme,
+        blocks_of(programme),
+        by,
+        &mut labels,
+        &mut held,
+        place,
+    );
+    stretches::settle(programme, opened, &labels, &held, end, out, pause)
+}
 
 // A run by stretches, from its start. Out of budget, it answers 17 by writing the output so far and a pause sheet; finished, it writes the output; any
 // other refusal leaves both as they were. The answer and every byte of both are the definitions', for every input.
@@ -23,46 +106,7 @@ pub fn start(
     ensures { ComesTo opening (stretch store.now programme.now rule budget (length out.old) (length pause.old))
         out.old pause.old out.new pause.new result }
 {
-    let mut rows = [[0u16; Row::WIDTH]; Row::MOST];
-    let mut operands = [[0u8; Operand::WIDTH]; Operand::MOST];
-    let mut payloads = [0u64; Operand::MOST];
-    let mut held = [[0u64; Opened::ROW]; Opened::MOST_SLOTS];
-    let ready = ready::prepare(
-        store,
-        programme,
-        rule,
-        budget,
-        &mut rows,
-        &mut operands,
-        &mut payloads,
-        &mut held,
-    );
-    let answer = ready.answer;
-    let opened = ready.opened;
-    let judges = ready.judges;
-    if answer.number != Answer::FINISHED {
-        return answer;
-    }
-    if !stretches::fitting(out.len(), pause.len(), opened.slots) {
-        return store::unplaced(Answer::OUTPUT_LENGTH);
-    }
-    let top = lattice::top_mask(opened.table.n);
-    let mut labels = [top; Row::DEPTHS];
-    let from = blocks::opening(Judges::MOST_BUDGET as usize);
-    stretches::play_stretch(
-        programme,
-        &rows,
-        &operands,
-        &payloads,
-        &mut labels,
-        &mut held,
-        opened,
-        judges,
-        budget,
-        from,
-        out,
-        pause,
-    )
+    answered(stretch(store, programme, rule, budget, Origin::Opening, out, pause))
 }
 
 // Carries a run on from an old output and an old pause sheet, which are only read. The budget includes the steps so far.
@@ -79,58 +123,6 @@ pub fn carry_on(
     ensures { ComesTo (checkpoint old.now sheet.now) (stretch store.now programme.now rule budget (length out.old) (length pause.old))
         out.old pause.old out.new pause.new result }
 {
-    let mut rows = [[0u16; Row::WIDTH]; Row::MOST];
-    let mut operands = [[0u8; Operand::WIDTH]; Operand::MOST];
-    let mut payloads = [0u64; Operand::MOST];
-    let mut held = [[0u64; Opened::ROW]; Opened::MOST_SLOTS];
-    let ready = ready::prepare(
-        store,
-        programme,
-        rule,
-        budget,
-        &mut rows,
-        &mut operands,
-        &mut payloads,
-        &mut held,
-    );
-    let answer = ready.answer;
-    let opened = ready.opened;
-    let judges = ready.judges;
-    if answer.number != Answer::FINISHED {
-        return answer;
-    }
-    if !stretches::fitting(out.len(), pause.len(), opened.slots) {
-        return store::unplaced(Answer::OUTPUT_LENGTH);
-    }
-    if !stretches::fitting(old.len(), sheet.len(), opened.slots) {
-        return store::unplaced(Answer::OUTPUT_LENGTH);
-    }
-    let top = lattice::top_mask(opened.table.n);
-    let mut labels = [top; Row::DEPTHS];
-    match stretches::take_up(programme, opened, old, sheet, &mut labels, &mut held) {
-        Resumed::At { block, row, steps } => {
-            let limit = if budget < steps { steps } else { budget };
-            let from = Place {
-                block,
-                row,
-                steps,
-                free: Judges::MOST_BUDGET as usize,
-            };
-            stretches::play_stretch(
-                programme,
-                &rows,
-                &operands,
-                &payloads,
-                &mut labels,
-                &mut held,
-                opened,
-                judges,
-                limit,
-                from,
-                out,
-                pause,
-            )
-        }
-        Resumed::Bad => store::unplaced(Answer::CHECKPOINT),
-    }
+    let from = Origin::Checkpoint { output: old, sheet };
+    answered(stretch(store, programme, rule, budget, from, out, pause))
 }

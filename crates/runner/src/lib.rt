@@ -2,17 +2,18 @@
 #![tactic(auto)]
 
 ghost use Rattle.std.specs.Prelude.{◌≡◌, length};
-ghost use Rattle.syntax.specs.Rows.{tables_of};
+ghost use Rattle.syntax.specs.Sheet.{k_of};
+ghost use Rattle.values.specs.Result.{says};
 ghost use Rattle.calculus.specs.Run.{call, answer, output, journal as journalAfter};
-ghost use Rattle.runner.specs.WholeRun.{Roomy, Finishes, CanFinish, FirstPass};
+ghost use Rattle.machine.specs.BlockRuns.{played_of};
+ghost use Rattle.runner.specs.WholeRun.{answered, Finishes, CanFinish, Runs};
 
 use journal::First;
 use machine::blocks;
-use machine::blocks::Ended;
-use machine::rules::Judges;
-use programme::{Operands, Payloads, Rows};
-use store::{Answer, Entry, Held, Opened};
-use syntax::{Operand, Row};
+use machine::blocks::Played;
+use store::{Answer, Entry, Held, HeldSlot, Opened};
+use syntax::Row;
+use values::{Refusal, Refused};
 
 mod carrying;
 mod journal;
@@ -23,145 +24,105 @@ mod stretches;
 pub use carrying::{carry_on, start};
 pub use paths::trail::Checkpoint;
 
-// Plays the blocks of a programme that was taken in, and writes the end store; a halt leaves the output as it was.
-fn finish(
-    programme: &[u8],
-    rows: &Rows,
-    operands: &Operands,
-    payloads: &Payloads,
-    opened: Opened,
-    judges: Judges,
-    budget: u32,
-    entries: usize,
-    held: &mut Held,
-    out: &mut [u8],
-) -> First
-    requires { CanFinish opened judges programme.now (tables_of rows.now operands.now payloads.now) held.old }
-    ensures { Finishes opened judges budget entries programme.now
-        (tables_of rows.now operands.now payloads.now)
-        held.old out.old out.new result }
+// How many blocks a programme has.
+fn blocks_of(programme: &[u8]) -> usize
+    ensures { result ≡ k_of programme.now }
 {
-    let k = store::number_at(programme, 0, 1) as usize;
-    let slots = opened.slots;
-    let table = opened.table;
-    let from = blocks::opening(entries);
-    let top = lattice::top_mask(table.n);
-    let mut labels = [top; Row::DEPTHS];
-    match blocks::play_blocks(
-        programme,
-        k,
-        rows,
-        operands,
-        payloads,
-        &mut labels,
-        held,
-        table,
-        judges,
-        budget,
-        from,
-    ) {
-        Ended::Finished { steps, free } => {
-            store::write_store(held, slots, out);
-            let answer = Answer {
-                number: Answer::FINISHED,
-                block: k,
-                offset: 0,
-                steps,
-            };
-            First {
-                answer,
-                writes: entries - free,
-                table,
-                judges,
-                budget,
-            }
-        }
-        Ended::Halted {
-            number,
-            block,
-            row: _,
-            offset,
-            steps,
-        } => {
-            let answer = Answer {
-                number,
-                block,
-                offset,
-                steps,
-            };
-            journal::refused(answer, judges, budget)
-        }
+    store::number_at(programme, 0, 1) as usize
+}
+
+// What a run that finished answers.
+fn finishing(programme: &[u8], steps: u32) -> Answer
+    ensures { result ≡ says 0 (k_of programme.now) 0 steps }
+{
+    Answer {
+        number: Answer::FINISHED,
+        block: blocks_of(programme),
+        offset: 0,
+        steps,
     }
 }
 
-// The first pass: what every run begins with (11; 1 to 10), the output's length (12), then the blocks, over a copy of the store. It leaves the opening
-// store and the compiled tables for the second.
-fn first_pass<'s, 'p, 'o, 'a>(
-    store: &'s [u8],
-    programme: &'p [u8],
-    rule: u32,
-    budget: u32,
-    entries: usize,
-    out: &'o mut [u8],
-    rows: &'a mut Rows,
-    operands: &'a mut Operands,
-    payloads: &'a mut Payloads,
-    held: &'a mut Held,
-) -> First
-    requires { Roomy (tables_of rows.old operands.old payloads.old) }
-    ensures { FirstPass (call store.now programme.now rule budget (length out.old) entries)
-        out.old out.new (tables_of rows.new operands.new payloads.new) held.new result }
+// What a call answers: as its run finished, or why it was refused, and where.
+#[tactic(auto, unfolding(crate::specs::WholeRun::answered))]
+fn answered(run: Result<Answer, Refused>) -> Answer
+    ensures { result ≡ answered run }
 {
-    let ready = ready::prepare(
-        store, programme, rule, budget, rows, operands, payloads, held,
-    );
-    let answer = ready.answer;
-    let opened = ready.opened;
-    let judges = ready.judges;
-    if answer.number != Answer::FINISHED {
-        return journal::refused(answer, judges, budget);
+    match run {
+        Ok(answer) => answer,
+        Err(refused) => Answer::from(refused),
     }
-    if out.len() != Opened::SLOT_WIDTH * opened.slots {
-        return journal::refused(store::unplaced(Answer::OUTPUT_LENGTH), judges, budget);
+}
+
+// The first pass: the output's length (12), then the blocks, over a copy of the store. A refusal leaves the output as it was.
+fn first_pass(
+    programme: &[u8],
+    by: Played,
+    slots: usize,
+    entries: usize,
+    held: &Held,
+    out: &mut [u8],
+) -> Result<First, Refused>
+    requires { CanFinish slots (played_of by) programme.now held.now }
+    ensures { Finishes slots (played_of by.entry)
+        entries programme.now held.now out.old out.new result }
+{
+    if out.len() != Opened::SLOT_WIDTH * slots {
+        return Err(Refused::from(Refusal::OutputLength));
     }
     let mut work = *held;
-    finish(
-        programme, rows, operands, payloads, opened, judges, budget, entries, &mut work, out,
-    )
+    let mut labels = [lattice::top_mask(by.order.n); Row::DEPTHS];
+    let k = blocks_of(programme);
+    let from = blocks::opening(entries);
+    match blocks::play_blocks(programme, k, by, &mut labels, &mut work, from) {
+        Ok(finished) => {
+            store::write_store(&work, slots, out);
+            Ok(First {
+                answer: finishing(programme, finished.steps),
+                writes: entries - finished.free,
+            })
+        }
+        Err(halted) => Err(halted.refused),
+    }
+}
+
+// Both passes: what every run begins with (11; 1 to 10), the first pass, and the second, from the opening store and by the same tables.
+fn both_passes(
+    store: &[u8],
+    programme: &[u8],
+    rule: u32,
+    budget: u32,
+    out: &mut [u8],
+    journal: &mut [Entry],
+) -> Result<Answer, Refused>
+    ensures { Runs (call store.now programme.now rule budget (length out.old) (length journal.old)) out.old journal.old out.new journal.new result }
+{
+    let mut compiled = ready::blank();
+    let mut held = [HeldSlot::EMPTY; Opened::MOST_SLOTS];
+    let ready = ready::prepare(store, programme, rule, budget, &mut compiled, &mut held)?;
+    let by = Played {
+        tables: &compiled,
+        order: &ready.opened.table,
+        judges: ready.judges,
+        budget,
+    };
+    let first = first_pass(programme, by, ready.opened.slots, journal.len(), &held, out)?;
+    journal::replay(journal, programme, by, &mut held, first.writes);
+    Ok(first.answer)
 }
 
 // One run. The answer, every byte of the output and every entry of the journal are the definitions', for every input.
-pub fn run<'s, 'p, 'o, 'j>(
-    store: &'s [u8],
-    programme: &'p [u8],
+pub fn run(
+    store: &[u8],
+    programme: &[u8],
     rule: u32,
     budget: u32,
-    out: &'o mut [u8],
-    journal: &'j mut [Entry],
+    out: &mut [u8],
+    journal: &mut [Entry],
 ) -> Answer
     ensures { (result ≡ answer (call store.now programme.now rule budget (length out.old) (length journal.old)))
         × (out.new ≡ output (call store.now programme.now rule budget (length out.old) (length journal.old)) out.old)
         × (journal.new ≡ journalAfter (call store.now programme.now rule budget (length out.old) (length journal.old)) journal.old) }
 {
-    let entries = journal.len();
-    let mut rows = [[0u16; Row::WIDTH]; Row::MOST];
-    let mut operands = [[0u8; Operand::WIDTH]; Operand::MOST];
-    let mut payloads = [0u64; Operand::MOST];
-    let mut held = [[0u64; Opened::ROW]; Opened::MOST_SLOTS];
-    let first = first_pass(
-        store,
-        programme,
-        rule,
-        budget,
-        entries,
-        out,
-        &mut rows,
-        &mut operands,
-        &mut payloads,
-        &mut held,
-    );
-    journal::replay(
-        journal, programme, &rows, &operands, &payloads, &mut held, first,
-    );
-    first.answer
+    answered(both_passes(store, programme, rule, budget, out, journal))
 }

@@ -1,50 +1,47 @@
 -- Laws of the output as loops write it, row by row (`row_bytes`, `rows_bytes`, specs/HeldStore.antt). Assumes nothing.
-use Prim.Native.Nat.{ℕ, zero, suc, ◌+◌, ◌*◌, ◌%◌}
-use mathlib.Core.Path.{◌≡◌, refl, sym, ap, ◌∙◌}
-use mathlib.Core.List.{List, [], ◌∷◌}
-use native.Mathlib.Omega.{arith}
-use lib.ListN.{length, get_or, set, length-append}
+use Rattle.std.proofs.Common.{◌≡◌, ℕ, zero, suc, ◌+◌, ◌*◌, ◌≤◌, List, ◌++◌, length, get_or, refl, sym, ap, ◌∙◌, append-nil, append_assoc, length-append, arith}
+use Rattle.std.proofs.Math.Seq.{length-sets}
+use borrow.Rule.Slice.PartMut.{put_mid}
 use lib.Seq.{sets}
 use Rattle.values.specs.Bytes.{number_bytes}
 use Rattle.values.specs.Value.{payload_width, count_width, slot_width}
 use Rattle.values.proofs.Bytes.{length_number}
-use Rattle.values.proofs.BytesWritten.{sets_append}
-use Rattle.store.specs.HeldStore.{row_bytes, rows_bytes}
+use Rattle.values.proofs.BytesWritten.{put_sets, sets_append}
+use Rattle.store.specs.declared.HeldSlot.{HeldSlot}
+use Rattle.store.specs.HeldStore.{empty_row, row_bytes, rows_bytes, out_after}
 
-pub length_row : (row : List ℕ) → length (row_bytes row) ≡ slot_width
+pub length_row : (row : HeldSlot) → length (row_bytes row) ≡ slot_width
 unfolding row_bytes
 length_row row =
-    ap suc (length-append (number_bytes payload_width (get_or row 1 0)) (number_bytes count_width (get_or row 3 0)))
-    ∙ omega (arith, length_number payload_width (get_or row 1 0), length_number count_width (get_or row 3 0))
+    ap suc (length-append (number_bytes payload_width row.payload) (number_bytes count_width row.writes))
+    ∙ omega (arith, length_number payload_width row.payload, length_number count_width row.writes)
 
-pub length_rows : (held : List (List ℕ)) (i n : ℕ) → length (rows_bytes held i n) ≡ slot_width * n
+pub length_rows : (held : List HeldSlot) (i n : ℕ) → length (rows_bytes held i n) ≡ slot_width * n
 unfolding rows_bytes
 length_rows held i zero = refl
 length_rows held i (suc n) =
-    length-append (row_bytes (get_or held i [])) (rows_bytes held (i + 1) n)
-    ∙ omega (arith, length_row (get_or held i []), length_rows held (i + 1) n)
+    length-append (row_bytes (get_or held i empty_row)) (rows_bytes held (i + 1) n)
+    ∙ omega (arith, length_row (get_or held i empty_row), length_rows held (i + 1) n)
 
--- a row: its kind, its payload, its count
-pub row_written : (l : List ℕ) (row : List ℕ) (at at₁ at₉ : ℕ) → at₁ ≡ at + 1 → at₉ ≡ at + 9
-    → sets (sets (set l at (get_or row 0 0 % 256)) at₁ (number_bytes payload_width (get_or row 1 0))) at₉ (number_bytes count_width (get_or row 3 0))
-    ≡ sets l at (row_bytes row)
-unfolding row_bytes
-row_written l row at at₁ at₉ p q =
-    let first = get_or row 0 0 % 256 ∷ number_bytes payload_width (get_or row 1 0) in
-    let e : at₁ ≡ suc at = omega arith in
-    let f : at₉ ≡ at + length first = omega (arith, length_number payload_width (get_or row 1 0)) in
-    rw (e, f) (sym (sets_append l at first (number_bytes count_width (get_or row 3 0))))
-
--- the loop over the rows
-pub rows_step : (held : List (List ℕ)) (l : List ℕ) (i r r' at at' : ℕ) → r ≡ suc r' → at' ≡ at + slot_width
-    → sets l at (rows_bytes held i r) ≡ sets (sets l at (row_bytes (get_or held i []))) at' (rows_bytes held (i + 1) r')
+-- one slot more, at the end
+rows_more : (held : List HeldSlot) (i n k : ℕ) → k ≡ i + n → rows_bytes held i n ++ row_bytes (get_or held k empty_row) ≡ rows_bytes held i (suc n)
 unfolding rows_bytes
-rows_step held l i r r' at at' p q =
-    rw p
-    (sets_append l at (row_bytes (get_or held i [])) (rows_bytes held (i + 1) r')
-    ∙ ap (λ (k : ℕ). sets (sets l at (row_bytes (get_or held i []))) k (rows_bytes held (i + 1) r'))
-    (ap (λ (k : ℕ). at + k) (length_row (get_or held i [])) ∙ sym q))
+rows_more held i zero k e =
+    let start : k ≡ i = omega arith in
+    rw start (sym (append-nil _))
+rows_more held i (suc n) k e =
+    let row = row_bytes (get_or held i empty_row) in
+    append_assoc row (rows_bytes held (i + 1) n) _ ∙ ap (λ (l : List ℕ). row ++ l) (rows_more held (i + 1) n k (omega arith))
 
-pub rows_done : (held : List (List ℕ)) (l : List ℕ) (i r at : ℕ) → r ≡ 0 → sets l at (rows_bytes held i r) ≡ l
-unfolding rows_bytes
-rows_done held l i r at p = rw p refl
+-- the loop over the slots: one is written after those that are
+pub slot_written : (held : List HeldSlot) (old : List ℕ) (n k : ℕ) → k ≡ slot_width → slot_width * n + slot_width ≤ length old
+    → put_mid (slot_width * n) k (out_after held n old) (row_bytes (get_or held n empty_row)) ≡ out_after held (n + 1) old
+unfolding out_after
+slot_written held old n k e h =
+    let row = row_bytes (get_or held n empty_row) in
+    let there = rows_bytes held 0 n in
+    let at : slot_width * n ≡ 0 + length there = omega (arith, length_rows held 0 n) in
+    put_sets (slot_width * n) k (sets old 0 there) row (length_row _ ∙ sym e) (omega (arith, length-sets old 0 there))
+    ∙ ap (λ (j : ℕ). sets (sets old 0 there) j row) at ∙ sym (sets_append old 0 there row)
+    ∙ ap (λ (l : List ℕ). sets old 0 l) (rows_more held 0 n n (omega arith))
+    ∙ ap (λ (j : ℕ). sets old 0 (rows_bytes held 0 j)) (omega arith)

@@ -1,3 +1,4 @@
 pub mod HeldStoreOutput
 pub mod Sheet
 pub mod SheetOpening
+pub mod CountsAdded

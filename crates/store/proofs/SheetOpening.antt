@@ -21,7 +21,8 @@ use Rattle.values.proofs.Result.{Post, Positive, post_ok, post_map, post_require
 use Rattle.values.proofs.BytesArrays.{pick, length_filled, entry_at, filled_at}
 use Rattle.values.proofs.BytesNumbers.{number_lt}
 use Rattle.values.proofs.Bytes.{length_value, length_slot, value_read}
-use Rattle.store.specs.Sheet.{Opening, owner_of, most_slots, n_of, m_of, owner_at, slot_value_at, order_of, tables_of, opening_of, Form, store_form, value_good, slot_checked, body_checked, sheet_checked, sizes_allowed, store_sheet, slots_bytes}
+use Rattle.store.specs.Sheet.{Opening, store_form, owner_of, most_slots, n_of, m_of, owner_at, slot_value_at, order_of, tables_of, opening_of, value_good, slot_checked, body_checked, sheet_checked, sizes_allowed, store_sheet, slots_bytes}
+use Rattle.store.specs.declared.sheets.Form.{Form}
 use Rattle.store.specs.HeldStore.{Ordered}
 
 -- an entry of an array that was not filled

@@ -1,11 +1,13 @@
 -- Document 01, "The store sheet", with refusals 1 to 5. Assumes nothing.
-use Rattle.std.specs.Prelude.{ℕ, zero, suc, ◌+◌, ◌*◌, Bool, true, false, List, [], ◌++◌, get_or, length, ltb, leb, eqb}
+use Rattle.std.specs.Prelude.{ℕ, zero, suc, ◌+◌, ◌*◌, Bool, true, List, [], ◌++◌, get_or, length, ltb, leb, eqb}
 use Rattle.lattice.specs.Tests.{◌and◌}
 use Rattle.lattice.specs.declared.Table.{Table}
 use Rattle.lattice.specs.Order.{Label, most_principals, good}
 use Rattle.values.specs.Result.{Result, ok, ◌>>=◌, require, in_turn}
 use Rattle.values.specs.Bytes.{number_at, filled, sizes_width}
 use Rattle.values.specs.declared.Value.{Value}
+use Rattle.store.specs.declared.sheets.Form.{Form}
+use Rattle.store.specs.declared.sheets.Form.TheVariants as form
 use Rattle.values.specs.Value.{value_width, well_formed, value_at, Slot, opened, empty_slot, slot_bytes}
 
 -- the order table and the owners: what two opening stores share in demand 3, and a table sheet holds
@@ -35,6 +37,9 @@ m_of s = number_at 2 s 1
 abbrev pub mask_width : ℕ
 mask_width = 4
 
+abbrev pub mask_at : List ℕ → ℕ → ℕ
+mask_at s i = number_at mask_width s (sizes_width + mask_width * i)
+
 abbrev pub owners_at : ℕ → ℕ
 owners_at n = sizes_width + mask_width * n
 
@@ -49,7 +54,7 @@ slot_value_at s i = value_at s (values_at (n_of s) (m_of s) + value_width * i)
 
 -- The tables that a sheet holds: masks from n on are held as 0, and so are owners from m on.
 unfoldable pub order_of : List ℕ → Table
-order_of s = record { n = n_of s; masks = filled most_principals (n_of s) (λ i. number_at mask_width s (sizes_width + mask_width * i)) 0 }
+order_of s = record { n = n_of s; masks = filled most_principals (n_of s) (mask_at s) 0 }
 
 unfoldable pub tables_of : List ℕ → Tables
 tables_of s = record { order = order_of s; slots = m_of s; owners = filled most_slots (m_of s) (owner_at s) 0 }
@@ -60,22 +65,21 @@ opening_of s =
     record { tables = tables_of s; store = filled most_slots (m_of s) (λ i. opened (slot_value_at s i)) empty_slot }
 
 -- "A table sheet is a store sheet that ends after its owners; it is judged by the same numbers in the same order."
-pub data Form : Type 0 where
-  store_form table_form : Form
+-- `Form` is the enum of src/sheets.rt: whether values stand after the owners.
+abbrev pub store_form : Form
+store_form = form.Store
 
--- whether values stand after the owners
-unfoldable pub form_of : Bool → Form
-form_of true = store_form
-form_of false = table_form
+abbrev pub table_form : Form
+table_form = form.Table
 
 -- the bytes of a slot's value in a sheet of this form
 unfoldable pub value_width_in : Form → ℕ
-value_width_in store_form = value_width
-value_width_in table_form = 0
+value_width_in form.Store = value_width
+value_width_in form.Table = 0
 
 unfoldable pub value_good : Form → List ℕ → ℕ → Bool
-value_good store_form s i = well_formed (m_of s) (slot_value_at s i)
-value_good table_form s i = true
+value_good form.Store s i = well_formed (m_of s) (slot_value_at s i)
+value_good form.Table s i = true
 
 -- n "1 to 32", m "0 to 256"
 unfoldable pub sizes_allowed : ℕ → ℕ → Bool

@@ -3,22 +3,23 @@
 
 use lattice::Table;
 
+mod counts;
 mod held;
 mod sheets;
 
+pub use counts::{count_at, counts_total};
 pub use held::{open_store, write_store};
 pub use sheets::{check_store, check_table};
 
 // Of `values`, for the crates above.
 pub use values::{
-    Answer, Entry, Value, difference, is_write_view, less_than, number_at, sum, unplaced, value_at,
-    viewed, well_formed, wide,
+    Answer, Entry, Refusal, Refused, Value, difference, is_write_view, less_than, number_at,
+    number_of, sum, value_at, viewed, well_formed,
 };
 
-// What a store sheet opens: its tables, or the number of its refusal.
+// What a store sheet opens: its tables.
 #[derive(Clone, Copy)]
 pub struct Opened {
-    pub refusal: u32,
     pub slots: usize,
     pub table: Table,
 }
@@ -36,20 +37,26 @@ impl Opened {
     pub const SIZES: usize = 3;
     // The bytes of a mask.
     pub const MASK: usize = 4;
-    // The numbers of a row, and where each stands.
-    pub const ROW: usize = 4;
-
-    pub const ROW_KIND: usize = 0;
-
-    pub const ROW_PAYLOAD: usize = 1;
-
-    pub const ROW_OWNER: usize = 2;
-
-    pub const ROW_WRITES: usize = 3;
 }
 
-// A slot as the code holds it.
-pub type SlotRow = [u64; Opened::ROW];
+// A slot as the code holds it, in numbers as wide as those that the machine's loop reckons with.
+#[derive(Clone, Copy, Debug, PartialEq, Eq)]
+pub struct HeldSlot {
+    pub kind: u64,
+    pub payload: u64,
+    pub owner: u64,
+    pub writes: u64,
+}
 
-// A store as the code holds it: a row for each slot that there may be.
-pub type Held = [SlotRow; Opened::MOST_SLOTS];
+impl HeldSlot {
+    // The integer 0 of principal 0, never written: every slot from m on.
+    pub const EMPTY: HeldSlot = HeldSlot {
+        kind: 0,
+        payload: 0,
+        owner: 0,
+        writes: 0,
+    };
+}
+
+// A store as the code holds it: one for each slot that there may be.
+pub type Held = [HeldSlot; Opened::MOST_SLOTS];

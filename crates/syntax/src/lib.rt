@@ -1,4 +1,4 @@
-// The programme sheet and its code: what they say, and what they are compiled into. Definitions in specs/, laws in proofs/; no code.
+// The programme sheet and its code: what they say, and what they are compiled into. Definitions in specs/, laws in proofs/.
 #![tactic(auto)]
 
 use values::Value;
@@ -17,7 +17,7 @@ impl Header {
     pub const ENDORSED: u8 = 0x80;
 }
 
-// The sizes at a programme sheet's start. (As of a row and an operand, only the constants are used: they are held as numbers.)
+// The sizes at a programme sheet's start.
 #[derive(Drop)]
 pub struct Sizes {
     pub blocks: usize,
@@ -37,38 +37,32 @@ impl Sizes {
     pub const MOST_CODE: usize = 16384;
 }
 
-// An instruction row: its kind, how many if-parts and bodies stand around its command, the offset of its command, and two places: operands, or
-// the row to go on at.
-#[derive(Drop)]
-pub struct Row {
-    pub kind: u16,
-    pub depth: u16,
-    pub offset: u16,
-    pub first: u16,
-    pub second: u16,
+// An instruction row. Of a command: how many if-parts and bodies stand around it, the offset of its first byte in its block, and its places.
+#[derive(Clone, Copy, Debug, PartialEq, Eq)]
+pub enum Row {
+    // A block's end.
+    End,
+    // An assignment, with the first operands of its target and its value.
+    Assign {
+        depth: u16,
+        offset: u16,
+        target: u16,
+        value: u16,
+    },
+    // A guard, with its first operand and the row to go on at where it is false; where it is true that is the next row.
+    Guard {
+        depth: u16,
+        offset: u16,
+        operand: u16,
+        other: u16,
+    },
+    // From a then-part's end past the else-part, if that has rows; from a body's end back to its guard.
+    Jump {
+        target: u16,
+    },
 }
 
 impl Row {
-    // The numbers of a row, and where each stands.
-    pub const WIDTH: usize = 5;
-
-    pub const KIND: usize = 0;
-
-    pub const DEPTH: usize = 1;
-
-    pub const OFFSET: usize = 2;
-
-    pub const FIRST: usize = 3;
-
-    pub const SECOND: usize = 4;
-
-    pub const END: u16 = 0;
-
-    pub const ASSIGN: u16 = 1;
-
-    pub const GUARD: u16 = 2;
-
-    pub const JUMP: u16 = 3;
     // The most rows: two for each guard's bytes, and an end row for each block.
     pub const MOST: usize = 2 * Sizes::MOST_CODE / (2 + Value::WIDTH) + Sizes::MOST_BLOCKS;
     // How deep commands may nest, the block's own command being depth 1.
@@ -77,9 +71,9 @@ impl Row {
     pub const DEPTHS: usize = Row::MOST_DEEP + 1;
 }
 
-// An operand of an expression in postfix: a literal's kind or an operation; the reads around it, with `MORE` added where more operands of its
-// expression come. Its payload stands in a table of its own.
-#[derive(Drop)]
+// An operand of an expression in postfix: a literal with its kind and payload, or an operation, with its first byte as kind and no payload; and
+// the reads around it, with `MORE` added where more operands of its expression come.
+#[derive(Clone, Copy, Debug, PartialEq, Eq)]
 pub struct Operand {
     pub kind: u8,
     pub reads: u8,
@@ -87,12 +81,6 @@ pub struct Operand {
 }
 
 impl Operand {
-    // The numbers of an operand beside its payload, and where each stands.
-    pub const WIDTH: usize = 2;
-
-    pub const KIND: usize = 0;
-
-    pub const READS: usize = 1;
     // Added to the reads of every operand of an expression but the last.
     pub const MORE: u8 = 0x80;
     // An operation's kind is its first byte.
@@ -111,12 +99,12 @@ impl Operand {
     pub const DEEPEST: usize = Operand::MOST_NESTED;
 }
 
-// What a programme is compiled into: rows, and operands with their payloads beside them.
-pub type Rows = [[u16; Row::WIDTH]; Row::MOST];
+// The tables that a programme is compiled into: instruction rows, and the operands of their expressions.
+#[derive(Drop)]
+pub struct Compiled {
+    pub rows: [Row; Row::MOST],
+    pub operands: [Operand; Operand::MOST],
+}
 
-pub type Operands = [[u8; Operand::WIDTH]; Operand::MOST];
-
-pub type Payloads = [u64; Operand::MOST];
-
-// What its rows are run with: a branch label for each depth, as its principal's mask.
+// What rows are run with: a branch label for each depth, as its principal's mask.
 pub type Labels = [u32; Row::DEPTHS];

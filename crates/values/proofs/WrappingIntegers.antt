@@ -1,9 +1,10 @@
--- Proves `wrapping_integers`: sums and differences of payloads mean those of integers, wrapped; payloads compare as integers do. Assumes nothing.
-use Rattle.std.proofs.Common.{◌≡◌, ℕ, zero, suc, ◌+◌, ◌-◌, ◌*◌, ◌/◌, ◌%◌, ◌<◌, ◌≤◌, Bool, true, false, cond, not, T, ltb, leb, ◌⊎◌, ℤ, pos, negsuc, ◌+ℤ◌, ◌-ℤ◌, neg_ℤ, sym, refl, ap, ◌∙◌, inl, inr, arith, ltb→lt, nltb→le, ltb-false, ltb-true, le-ltb, lt-ltb, leb-false, leb-true}
-use lib.Signed.{mag, lt_z}
+-- Proves `wrapping_integers`: sums and differences of payloads mean those of integers, wrapped; a payload that is cast is the integer that it means. Assumes nothing.
+use Rattle.std.proofs.Common.{◌≡◌, ℕ, zero, suc, ◌+◌, ◌-◌, ◌*◌, ◌/◌, ◌<◌, ◌≤◌, Bool, true, false, cond, ltb, leb, ◌⊎◌, ℤ, pos, negsuc, ◌+ℤ◌, ◌-ℤ◌, neg_ℤ, refl, ap, inl, inr, arith, ltb-false, ltb-true, le-ltb, lt-ltb, leb-false, leb-true}
+use Rattle.std.specs.Int.{w64, cast_signed}
+use lib.Signed.{mag}
 use Rattle.values.specs.declared.Value.{Value}
 use Rattle.values.specs.SignedIntegers.{payloads, least_negative, negative, magnitude, AnInteger}
-use Rattle.values.specs.Integers.{signed, sum_of, difference_of, less_of, Wrapped, WrappingIntegers}
+use Rattle.values.specs.Integers.{signed, sum_of, difference_of, Wrapped, WrappingIntegers}
 use Rattle.values.proofs.SignedIntegers.{plain, flipped, from_least, below_least}
 
 -- z is a - b, for two naturals: every integer is held so, and what is to be shown of integers is then arithmetic of naturals
@@ -21,11 +22,6 @@ taken : {a b : ℕ} (m n : ℕ) (t : Bool) → ltb m n ≡ t → m + b ≡ n + a
 taken m n true e h = below (n - suc m) (omega (arith, ltb-true m n e))
 taken m n false e h = above (m - n) (omega (arith, ltb-false m n e))
 
--- what is true exactly where a < b holds
-tests : (a b : ℕ) (t : Bool) → (T t → a < b) → (T (not t) → b ≤ a) → t ≡ ltb a b
-tests a b true i j = sym (lt-ltb a b (i tt))
-tests a b false i j = sym (le-ltb a b (j tt))
-
 module _ {a b c d : ℕ} where
   -- one integer is one difference, and the other way round
   alike : {z : ℤ} → Minus a b z → Minus c d z → a + d ≡ c + b
@@ -37,12 +33,6 @@ module _ {a b c d : ℕ} where
   same (above m h) (below n k) e = absurd (omega arith)
   same (below m h) (above n k) e = absurd (omega arith)
   same (below m h) (below n k) e = ap negsuc (omega arith)
-
-  less : {z w : ℤ} → Minus a b z → Minus c d w → ltb (a + d) (c + b) ≡ lt_z z w
-  less (above m h) (above n k) = tests m n _ (omega (arith, ltb→lt)) (omega (arith, nltb→le))
-  less (above m h) (below n k) = le-ltb (a + d) (c + b) (omega arith)
-  less (below m h) (above n k) = lt-ltb (a + d) (c + b) (omega arith)
-  less (below m h) (below n k) = tests n m _ (omega (arith, ltb→lt)) (omega (arith, nltb→le))
 
 added : {a b c d : ℕ} {z w : ℤ} → Minus a b z → Minus c d w → Minus (a + c) (b + d) (z +ℤ w)
 added (above m h) (above n k) = above (m + n) (omega arith)
@@ -111,13 +101,11 @@ module _ (v : Value) (i : AnInteger v) where
 pub wrapping_integers : WrappingIntegers
 wrapping_integers = record { sums = sums_wrapped; differences = differences_wrapped; apart = apart_by; below = below_zero; above = from_zero }
 
--- the difference is the one payload that with q wraps to p
-pub difference_is : (p q r : ℕ) → p < payloads → q < payloads → r < payloads → (r + q) % payloads ≡ p → r ≡ difference_of p q
-unfolding difference_of
-difference_is p q r h k l e = omega (arith, e)
+-- a payload, cast, is the integer that it means
+cast_by : (p : ℕ) → p < payloads → (t : Bool) → leb least_negative p ≡ t → cast_signed w64 p ≡ signed p
+unfolding signed
+cast_by p h true e = rw (signed, e, le-ltb p least_negative (leb-true _ _ e)) (ap negsuc (omega arith))
+cast_by p h false e = rw (signed, e, lt-ltb p least_negative (omega (arith, leb-false _ _ e)))
 
--- what is true exactly where p means a lesser integer than q
-pub less_is : (p q : ℕ) (t : Bool) → p < payloads → q < payloads → (T t → p + turn q < q + turn p) → (T (not t) → q + turn p ≤ p + turn q)
-    → t ≡ less_of p q
-unfolding less_of
-less_is p q t h k i j = tests (p + turn q) (q + turn p) t i j ∙ less (meant p h) (meant q k)
+pub cast_is : (p : ℕ) → p < payloads → cast_signed w64 p ≡ signed p
+cast_is p h = cast_by p h (leb least_negative p) refl

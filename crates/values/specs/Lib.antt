@@ -1,4 +1,5 @@
 pub mod Result
+pub mod Refusal
 pub mod Bytes
 pub mod Value
 pub mod SignedIntegers

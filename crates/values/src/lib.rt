@@ -4,15 +4,14 @@
 mod integers;
 mod kinds;
 mod number;
-
-ghost use Rattle.std.specs.Prelude.{◌≡◌};
-ghost use Rattle.values.specs.Result.{unplaced};
+mod refusal;
 
 pub use integers::{difference, less_than, sum};
 pub use kinds::{is_write_view, value_at, viewed, well_formed};
-pub use number::{byte_at, number_at, wide};
+pub use number::{byte_at, number_at};
+pub use refusal::{Refusal, Refused, number_of};
 
-// What a call answers: 0 or the number of a refusal, and its place.
+// What a call answers: 0 or the number of a refusal, and its place. C reads it (include/muntyzhap.h), so the number stays one; in Rattle a refusal is a `Refusal`.
 #[repr(C)]
 #[derive(Clone, Copy)]
 pub struct Answer {
@@ -23,60 +22,11 @@ pub struct Answer {
 }
 
 impl Answer {
-    // Number 0, and the numbers of refusals: of the store sheet,
+    // The number of a run that finished, and of a check that refuses nothing.
     pub const FINISHED: u32 = 0;
-
-    pub const STORE_LENGTH: u32 = 1;
-
-    pub const STORE_LIMITS: u32 = 2;
-
-    pub const ORDER_TABLE: u32 = 3;
-
-    pub const OWNER: u32 = 4;
-
-    pub const VALUE: u32 = 5;
-    // of the programme sheet,
-    pub const PROGRAMME_LENGTH: u32 = 6;
-
-    pub const PROGRAMME_LIMITS: u32 = 7;
-
-    pub const REGION: u32 = 8;
-
-    pub const ILL_FORMED_CODE: u32 = 9;
-
-    pub const NESTED_TOO_DEEP: u32 = 10;
-    // of the other arguments,
-    pub const ARGUMENTS: u32 = 11;
-
-    pub const OUTPUT_LENGTH: u32 = 12;
-    // and of a step.
-    pub const WRONG_KIND: u32 = 13;
-
-    pub const NO_AUTHORITY: u32 = 14;
-
-    pub const WRITE_VIEW_NOT_ALLOWED: u32 = 15;
-
-    pub const PROVENANCE_TOO_LOW: u32 = 16;
-
-    pub const BUDGET_SPENT: u32 = 17;
-
-    pub const JOURNAL_FULL: u32 = 18;
-
-    pub const CHECKPOINT: u32 = 19;
 }
 
-// A refusal without a place.
-pub fn unplaced(number: u32) -> Answer
-    ensures { result ≡ unplaced number }
-{
-    Answer {
-        number,
-        block: 0,
-        offset: 0,
-        steps: 0,
-    }
-}
-
+// A kind, and what it holds. C reads it in an `Entry`, and a sheet may give any byte as a kind, so the kind stays a number.
 #[repr(C)]
 #[derive(Clone, Copy)]
 pub struct Value {

@@ -2,49 +2,35 @@
 ghost use Rattle.std.specs.Prelude.{◌≡◌, ◌+◌, ◌≤◌, min, length, slice_index};
 ghost use Rattle.values.specs.Bytes.{number_at};
 
-// A byte as a number.
-pub fn wide(x: u8) -> u64
-    ensures { result ≡ x }
-{
-    x as u64
-}
+// A number has at most the bytes of a u64.
+const MOST: usize = 8;
 
 // The byte k places after `at`, or 0 past the end.
 pub fn byte_at(s: &[u8], at: usize, k: usize) -> u64
     ensures { result ≡ slice_index s.now (at + k) }
 {
-    let size = s.len();
-    if at < size {
-        if k < size - at {
-            return wide(s[at + k]);
-        }
+    match s.get(at..) {
+        Some(rest) => rest.get(k).map_or(0, |byte| u64::from(*byte)),
+        None => 0,
     }
-    0
 }
 
-// The number in `width` bytes from `at` on, the lowest byte first. At most 8 bytes are read, and those past the end are 0.
+// The number in `width` bytes from `at` on. At most 8 bytes are read, and those past the end are 0.
 pub fn number_at(s: &[u8], at: usize, width: usize) -> u64
     ensures { result ≡ number_at (min 8 width) s.now at }
 {
-    let mut left = if width < 8 { width } else { 8 };
-    let mut sum: u64 = 0;
-    while 0 < left {
-        left -= 1;
-        sum = byte_at(s, at, left) + sum * 256;
+    match s.get(at..) {
+        Some(rest) => number_in(&rest[..rest.len().min(width).min(MOST)]),
+        None => 0,
     }
-    sum
 }
 
-// The number in `width` bytes from `at` on, all of which are there.
-pub(crate) fn number_in(s: &[u8], at: usize, width: usize) -> u64
-    requires { (width ≤ 8) × (at + width ≤ length s.now) }
-    ensures { result ≡ number_at width s.now at }
+// The number in these bytes.
+pub(crate) fn number_in(bytes: &[u8]) -> u64
+    requires { length bytes.now ≤ 8 }
+    ensures { result ≡ number_at (length bytes.now) bytes.now 0 }
 {
-    let mut left = width;
-    let mut sum: u64 = 0;
-    while 0 < left {
-        left -= 1;
-        sum = wide(s[at + left]) + sum * 256;
-    }
-    sum
+    let mut whole = [0; MOST];
+    whole[..bytes.len()].copy_from_slice(bytes);
+    u64::from_le_bytes(whole)
 }

@@ -3,29 +3,92 @@
 // says so, and nothing more of it is read. Its last line is the number of cases, where all were played.
 #![tactic(auto)]
 
-ghost use Rattle.std.specs.Prelude.{◌≡◌, true, false, ◌≤◌, ◌<◌, length};
-ghost use Rattle.vectors.specs.Cases.{head_of, marked, body_length, most_output, most_body, Fits};
+ghost use Rattle.std.specs.Prelude.{◌≡◌, ◌≤◌, ◌<◌, ◌↔◌, length, IsTrue, IfOk};
+ghost use Rattle.vectors.specs.Cases.{kind_of, head_of, marked, body_length, Fits};
 
 use printing::{Input, Text};
 use runner::Checkpoint;
+use std::fmt;
+use std::fmt::{Display, Formatter, Write};
 use std::io::Read;
-use store::{Answer, Opened};
+use store::{Answer, Opened, Refusal};
+
+// What is wrong with a case.
+#[derive(Clone, Copy)]
+enum Fault {
+    CutOff,
+    NoMark,
+    NoKind,
+    PastLimit,
+}
+
+impl Display for Fault {
+    fn fmt<W: Write>(&self, f: &mut Formatter<W>) -> fmt::Result {
+        f.write_str(match self {
+            Fault::CutOff => "cut off in case",
+            Fault::NoMark => "no mark at the start of case",
+            Fault::NoKind => "no kind of call in case",
+            Fault::PastLimit => "a length past its limit in case",
+        })
+    }
+}
+
+// What is wrong with a list: its own beginning or end, or one of its cases, of which the first is number 1.
+#[derive(Clone, Copy)]
+enum Malformed {
+    NoCount { at: usize },
+    Case { fault: Fault, case: u64 },
+    LeftOver { count: u64 },
+}
+
+impl Display for Malformed {
+    fn fmt<W: Write>(&self, f: &mut Formatter<W>) -> fmt::Result {
+        match self {
+            Malformed::NoCount { at } => write!(f, "cut off before its cases, at byte {at}"),
+            Malformed::Case { fault, case } => write!(f, "{fault} {case}"),
+            Malformed::LeftOver { count } => write!(f, "bytes left over after case {count}"),
+        }
+    }
+}
+
+// The kinds of call.
+#[derive(Clone, Copy, PartialEq, Eq)]
+enum Kind {
+    Run,
+    Start,
+    CarryOn,
+}
+
+impl TryFrom<u64> for Kind {
+    type Error = Fault;
+
+    ghost try_from_gives = { λ number r. r ≡ kind_of number };
+
+    fn try_from(number: u64) -> Result<Kind, Fault> {
+        match number {
+            0 => Ok(Kind::Run),
+            1 => Ok(Kind::Start),
+            2 => Ok(Kind::CarryOn),
+            _ => Err(Fault::NoKind),
+        }
+    }
+}
 
 // What a case says before its name and its sheets: its kind of call, the arguments of the call, and lengths. `old` and `sheet` are those of the output
 // and the pause sheet that are carried on from.
 #[derive(Clone, Copy)]
 struct Head {
-    kind: u64,
-    name: usize,
-    rule: u64,
-    budget: u64,
-    output: usize,
-    journal: usize,
-    pause: usize,
-    store: usize,
-    programme: usize,
-    old: usize,
-    sheet: usize,
+    kind: Kind,
+    name: u8,
+    rule: u32,
+    budget: u32,
+    output: u16,
+    journal: u16,
+    pause: u16,
+    store: u16,
+    programme: u16,
+    old: u16,
+    sheet: u16,
 }
 
 impl Head {
@@ -35,49 +98,96 @@ impl Head {
     const COUNT: usize = 2;
     // The word that each case starts with.
     const MARK: u64 = 0x6573_6163;
-    // The kinds of call.
-    const RUN: u64 = 0;
-
-    const START: u64 = 1;
-
-    const CARRY_ON: u64 = 2;
     // The most bytes of an output, a slot more than any end store has, and of a pause buffer; and of a name and all sheets.
     const MOST_OUTPUT: usize = Opened::MOST_OUTPUT + Opened::SLOT_WIDTH;
 
     const MOST_BODY: usize = 32768;
+    // What each byte of a buffer is that is lent to a call.
+    const LENT: u8 = 0xEE;
+
+    // The bytes after the head.
+    fn body_length(self) -> usize
+        ensures { result ≡ body_length self }
+    {
+        usize::from(self.name)
+            + usize::from(self.store)
+            + usize::from(self.programme)
+            + usize::from(self.old)
+            + usize::from(self.sheet)
+    }
+
+    // Whether there is room for the case's output, for its pause buffer, for its journal, and for its name and sheets.
+    fn fits(self) -> bool
+        ensures { IsTrue result ↔ Fits self }
+    {
+        usize::from(self.output) <= Head::MOST_OUTPUT
+            && usize::from(self.pause) <= Head::MOST_OUTPUT
+            && usize::from(self.journal) <= Input::ENTRIES
+            && self.body_length() <= Head::MOST_BODY
+    }
+}
+
+// A case: its head, and what stands after it.
+#[derive(Clone, Copy)]
+struct Case<'a> {
+    head: Head,
+    name: &'a [u8],
+    store: &'a [u8],
+    programme: &'a [u8],
+    old: &'a [u8],
+    sheet: &'a [u8],
+}
+
+impl<'a> Case<'a> {
+    // Cuts a case's body where its name and its sheets end.
+    fn cut(head: Head, body: &'a [u8]) -> Case<'a>
+        requires { length body.now ≡ body_length head }
+        ensures { result.head ≡ head }
+    {
+        let (name, rest) = body.split_at(usize::from(head.name));
+        let (store, rest) = rest.split_at(usize::from(head.store));
+        let (programme, rest) = rest.split_at(usize::from(head.programme));
+        let (old, sheet) = rest.split_at(usize::from(head.old));
+        Case {
+            head,
+            name,
+            store,
+            programme,
+            old,
+            sheet,
+        }
+    }
+
+    // The call of the case's kind.
+    fn call(self, out: &mut [u8], pause: &mut [u8]) -> Answer {
+        let Head {
+            kind,
+            rule,
+            budget,
+            journal,
+            ..
+        } = self.head;
+        let (store, programme) = (self.store, self.programme);
+        match kind {
+            Kind::Run => printing::run_lent(
+                store,
+                programme,
+                rule,
+                budget,
+                usize::from(journal),
+                out,
+            ),
+            Kind::Start => runner::start(store, programme, rule, budget, out, pause),
+            Kind::CarryOn => runner::carry_on(
+                store, programme, rule, budget, self.old, self.sheet, out, pause,
+            ),
+        }
+    }
 }
 
 // Writes bytes to standard output. That a write fails is not told of.
 fn put(rt: &impl Print, bytes: &[u8]) {
     let _ = rt.write_all(bytes);
-}
-
-// Reads until the buffer is full, the input ends or a read fails: how many bytes it holds then.
-fn read_full(input: &mut impl Read, buffer: &mut [u8]) -> usize
-    ensures { result ≤ length buffer.new }
-{
-    let size = buffer.len();
-    let mut done = 0;
-    while done < size {
-        let Ok(got) = input.read(&mut buffer[done..]) else {
-            break;
-        };
-        if got == 0 {
-            break;
-        }
-        done += got;
-    }
-    done
-}
-
-// Says what is wrong with the list, and answers that it is not read on.
-fn stop(rt: &impl Print, word: &[u8], case: u64) -> bool
-    ensures { result ≡ false }
-{
-    put(rt, b"list of cases: ");
-    put(rt, word);
-    let _ = println!(rt; "{case}");
-    false
 }
 
 // The answer as the printing program says it, after the case's name.
@@ -88,315 +198,184 @@ fn print_answer(rt: &impl Print, a: Answer) {
     put(rt, &text[..end]);
 }
 
-// Bytes in hexadecimal, a space before each group of so many.
-fn print_bytes(rt: &impl Print, bytes: &[u8], group: usize)
-    requires { 0 < group }
-{
-    let mut i = 0;
-    while i < bytes.len() {
-        if i % group == 0 {
-            put(rt, b" ");
-        }
-        let byte = store::number_at(bytes, i, 1);
+// Bytes in hexadecimal, after a space.
+fn print_group(rt: &impl Print, bytes: &[u8]) {
+    put(rt, b" ");
+    for byte in bytes {
         let _ = print!(rt; "{byte:02x}");
-        i += 1;
     }
 }
 
-// What a buffer holds that is lent to a call.
-fn room() -> [u8; Head::MOST_OUTPUT]
-    ensures { length result ≡ most_output }
+// Bytes in hexadecimal, in groups of so many.
+fn print_bytes(rt: &impl Print, bytes: &[u8], group: usize)
+    requires { 0 < group }
 {
-    [0xEEu8; Head::MOST_OUTPUT]
+    for part in bytes.chunks(group) {
+        print_group(rt, part);
+    }
 }
 
 // Whether a buffer that was lent still holds what it held then.
-fn print_kept(rt: &impl Print, lent: &[u8])
-    requires { length lent.now ≤ most_output }
-{
-    let size = lent.len();
-    let before = room();
-    if lent == &before[..size] {
+fn print_kept(rt: &impl Print, lent: &[u8]) {
+    if lent.iter().all(|byte| *byte == Head::LENT) {
         put(rt, b" untouched");
     } else {
         put(rt, b" changed");
     }
 }
 
-// Whether a call that ends so writes its output: one that finishes, and one by stretches that pauses.
-fn writes_output(kind: u64, number: u32) -> bool {
-    if number == Answer::FINISHED {
-        return true;
-    }
-    if kind == Head::RUN {
-        return false;
-    }
-    number == Answer::BUDGET_SPENT
-}
-
-// The output, where it was written.
-fn print_output(rt: &impl Print, kind: u64, number: u32, out: &[u8])
-    requires { length out.now ≤ most_output }
-{
+// The output, where it was written: by a call that finishes, and by one in stretches that pauses.
+fn print_output(rt: &impl Print, kind: Kind, number: u32, out: &[u8]) {
     put(rt, b" output");
-    if !writes_output(kind, number) {
+    let paused = kind != Kind::Run && number == Refusal::BudgetSpent.number();
+    if number != Answer::FINISHED && !paused {
         print_kept(rt, out);
-        return;
-    }
-    if out.len() == 0 {
+    } else if out.is_empty() {
         put(rt, b" empty");
+    } else {
+        print_bytes(rt, out, Opened::SLOT_WIDTH);
     }
-    print_bytes(rt, out, Opened::SLOT_WIDTH);
 }
 
 // The pause sheet, where it was written. A run has none.
-fn print_pause(rt: &impl Print, kind: u64, number: u32, pause: &[u8])
-    requires { length pause.now ≤ most_output }
-{
-    if kind == Head::RUN {
+fn print_pause(rt: &impl Print, kind: Kind, number: u32, pause: &[u8]) {
+    if kind == Kind::Run {
         return;
     }
     put(rt, b" pause");
-    if number == Answer::BUDGET_SPENT {
+    if number == Refusal::BudgetSpent.number() {
         print_bytes(rt, pause, Checkpoint::WIDTH);
     } else {
         print_kept(rt, pause);
     }
 }
 
-// The call of a case's kind.
-fn call(
-    h: Head,
-    store: &[u8],
-    programme: &[u8],
-    old: &[u8],
-    sheet: &[u8],
-    out: &mut [u8],
-    pause: &mut [u8],
-) -> Answer {
-    // Four bytes hold no more, so nothing is cut.
-    let rule = (h.rule % 4294967296) as u32;
-    let budget = (h.budget % 4294967296) as u32;
-    let kind = h.kind;
-    if kind == Head::RUN {
-        return printing::run_lent(store, programme, rule, budget, h.journal, out);
-    }
-    if kind == Head::START {
-        return runner::start(store, programme, rule, budget, out, pause);
-    }
-    runner::carry_on(store, programme, rule, budget, old, sheet, out, pause)
-}
-
-// Cuts a case's body where its name and its sheets end, and makes the call.
-fn call_body(h: Head, body: &[u8], out: &mut [u8], pause: &mut [u8]) -> Answer
-    requires fits { Fits h }
-    requires body_len { length body.now ≡ body_length h }
-{
-    let name = h.name;
-    let store = name + h.store;
-    let programme = store + h.programme;
-    let old = programme + h.old;
-    call(
-        h,
-        &body[name..store],
-        &body[store..programme],
-        &body[programme..old],
-        &body[old..],
-        out,
-        pause,
-    )
-}
-
 // Makes a case's call into what is lent, and prints its line.
-fn play_case(rt: &impl Print, h: Head, body: &[u8], out: &mut [u8], pause: &mut [u8])
-    requires fits { Fits h }
-    requires body_len { length body.now ≡ body_length h }
-    requires out_len_bound { (length out.old ≤ most_output) × (length pause.old ≤ most_output) }
-{
-    let name = h.name;
-    let kind = h.kind;
-    let a = call_body(h, body, out, pause);
-    put(rt, &body[..name]);
+fn play_into(rt: &impl Print, case: Case, out: &mut [u8], pause: &mut [u8]) {
+    let a = case.call(out, pause);
+    put(rt, case.name);
     print_answer(rt, a);
-    print_output(rt, kind, a.number, out);
-    print_pause(rt, kind, a.number, pause);
+    print_output(rt, case.head.kind, a.number, out);
+    print_pause(rt, case.head.kind, a.number, pause);
     put(rt, b"\n");
 }
 
 // Lends a case's call an output and a pause buffer of the lengths that it says.
-fn lend(rt: &impl Print, h: Head, body: &[u8])
-    requires fits { Fits h }
-    requires body_len { length body.now ≡ body_length h }
+fn play(rt: &impl Print, case: Case)
+    requires { Fits case.head }
 {
-    let size = h.output;
-    let width = h.pause;
-    let mut out = room();
-    let mut pause = room();
-    play_case(rt, h, body, &mut out[..size], &mut pause[..width]);
+    let mut out = [Head::LENT; Head::MOST_OUTPUT];
+    let mut pause = [Head::LENT; Head::MOST_OUTPUT];
+    let size = usize::from(case.head.output);
+    let width = usize::from(case.head.pause);
+    play_into(rt, case, &mut out[..size], &mut pause[..width]);
 }
 
 // Whether a case starts with its mark.
+#[tactic(auto, unfolding(crate::specs::Cases::marked))]
 fn is_marked(s: &[u8; Head::WIDTH]) -> bool
     ensures { result ≡ marked s.now }
 {
     store::number_at(s, 0, 4) == Head::MARK
 }
 
-fn head_of(s: &[u8; Head::WIDTH]) -> Head
+// What a head says, where its kind is one of the three.
+#[tactic(auto, using(crate::proofs::Heads::one_byte, crate::proofs::Heads::two_bytes, crate::proofs::Heads::four_bytes), unfolding(crate::specs::Cases::head_of, crate::specs::Cases::head_with))]
+fn head_of(s: &[u8; Head::WIDTH]) -> Result<Head, Fault>
     ensures { result ≡ head_of s.now }
 {
-    let kind = store::number_at(s, 4, 1);
-    let name = store::number_at(s, 5, 1) as usize;
-    let rule = store::number_at(s, 6, 4);
-    let budget = store::number_at(s, 10, 4);
-    let output = store::number_at(s, 14, 2) as usize;
-    let journal = store::number_at(s, 16, 2) as usize;
-    let pause = store::number_at(s, 18, 2) as usize;
-    let first = store::number_at(s, 20, 2) as usize;
-    let second = store::number_at(s, 22, 2) as usize;
-    let old = store::number_at(s, 24, 2) as usize;
-    let sheet = store::number_at(s, 26, 2) as usize;
-    Head {
+    let kind = Kind::try_from(store::number_at(s, 4, 1))?;
+    Ok(Head {
         kind,
-        name,
-        rule,
-        budget,
-        output,
-        journal,
-        pause,
-        store: first,
-        programme: second,
-        old,
-        sheet,
-    }
+        name: store::number_at(s, 5, 1) as u8,
+        rule: store::number_at(s, 6, 4) as u32,
+        budget: store::number_at(s, 10, 4) as u32,
+        output: store::number_at(s, 14, 2) as u16,
+        journal: store::number_at(s, 16, 2) as u16,
+        pause: store::number_at(s, 18, 2) as u16,
+        store: store::number_at(s, 20, 2) as u16,
+        programme: store::number_at(s, 22, 2) as u16,
+        old: store::number_at(s, 24, 2) as u16,
+        sheet: store::number_at(s, 26, 2) as u16,
+    })
 }
 
-// Whether there is room for a case's name and its sheets.
-fn body_fits(h: Head) -> bool
-    ensures { (result ≡ true → body_length h ≤ most_body) × (body_length h ≤ most_body → result ≡ true) }
+// Reads until the buffer is full, the input ends or a read fails: how many bytes it holds then. The loop counts them, since `read_exact` does not
+// say how many it read, and `read_to_end` needs a heap.
+fn read_full(input: &mut impl Read, buffer: &mut [u8]) -> usize
+    ensures { result ≤ length buffer.new }
 {
-    let name = h.name;
-    let first = h.store;
-    let second = h.programme;
-    let old = h.old;
-    let sheet = h.sheet;
-    if Head::MOST_BODY < name {
-        return false;
-    }
-    if Head::MOST_BODY < first {
-        return false;
-    }
-    if Head::MOST_BODY < second {
-        return false;
-    }
-    if Head::MOST_BODY < old {
-        return false;
-    }
-    if Head::MOST_BODY < sheet {
-        return false;
-    }
-    name + first + second + old + sheet <= Head::MOST_BODY
-}
-
-// Whether there is room for a case's output, for its pause buffer, for its journal, and for its name and sheets.
-fn fits(h: Head) -> bool
-    ensures { (result ≡ true → Fits h) × (Fits h → result ≡ true) }
-{
-    if Head::MOST_OUTPUT < h.output {
-        return false;
-    }
-    if Head::MOST_OUTPUT < h.pause {
-        return false;
-    }
-    if Input::ENTRIES < h.journal {
-        return false;
-    }
-    body_fits(h)
-}
-
-// Room for the name and the sheets of any case.
-fn body_room() -> [u8; Head::MOST_BODY]
-    ensures { length result ≡ most_body }
-{
-    [0u8; Head::MOST_BODY]
-}
-
-// Fills `body` with a case's name and sheets and plays it; answers whether they were there.
-fn fill_and_play(
-    rt: &impl Print,
-    input: &mut impl Read,
-    case: u64,
-    h: Head,
-    body: &mut [u8],
-) -> bool
-    requires fits { Fits h }
-    requires body_len { length body.old ≡ body_length h }
-{
-    let got = read_full(input, body);
-    if got < body.len() {
-        return stop(rt, b"cut off in case ", case);
-    }
-    lend(rt, h, body);
-    true
-}
-
-// Reads the rest of a case whose lengths are within their limits, and plays it; answers whether it was there.
-fn play_body(rt: &impl Print, input: &mut impl Read, case: u64, h: Head) -> bool
-    requires { Fits h }
-{
-    let size = h.name + h.store + h.programme + h.old + h.sheet;
-    let mut body = body_room();
-    fill_and_play(rt, input, case, h, &mut body[..size])
-}
-
-// Reads and plays the next case; answers whether it was one.
-fn play_next(rt: &impl Print, input: &mut impl Read, case: u64) -> bool {
-    let mut bytes = [0u8; Head::WIDTH];
-    let got = read_full(input, &mut bytes);
-    if got < Head::WIDTH {
-        return stop(rt, b"cut off in case ", case);
-    }
-    if !is_marked(&bytes) {
-        return stop(rt, b"no mark at the start of case ", case);
-    }
-    let h = head_of(&bytes);
-    if Head::CARRY_ON < h.kind {
-        return stop(rt, b"no kind of call in case ", case);
-    }
-    if !fits(h) {
-        return stop(rt, b"a length past its limit in case ", case);
-    }
-    play_body(rt, input, case, h)
-}
-
-// Plays so many cases; answers whether all of them were there.
-fn play_all(rt: &impl Print, input: &mut impl Read, count: u64) -> bool {
-    let mut case = 0;
-    while case < count {
-        case += 1;
-        if !play_next(rt, input, case) {
-            return false;
+    let mut done = 0;
+    while done < buffer.len() {
+        match input.read(&mut buffer[done..]) {
+            Ok(0) | Err(_) => break,
+            Ok(got) => done += got,
         }
     }
-    true
+    done
+}
+
+// Fills the buffer with bytes of a case.
+fn fill(input: &mut impl Read, buffer: &mut [u8]) -> Result<(), Fault> {
+    if read_full(input, buffer) < buffer.len() {
+        return Err(Fault::CutOff);
+    }
+    Ok(())
+}
+
+// Reads the head of the next case.
+fn read_head(input: &mut impl Read) -> Result<Head, Fault>
+    ensures { IfOk result Fits }
+{
+    let mut bytes = [0u8; Head::WIDTH];
+    fill(input, &mut bytes)?;
+    if !is_marked(&bytes) {
+        return Err(Fault::NoMark);
+    }
+    let head = head_of(&bytes)?;
+    if !head.fits() {
+        return Err(Fault::PastLimit);
+    }
+    Ok(head)
+}
+
+// Reads and plays the next case.
+fn play_next(rt: &impl Print, input: &mut impl Read) -> Result<(), Fault> {
+    let head = read_head(input)?;
+    let size = head.body_length();
+    let mut body = [0u8; Head::MOST_BODY];
+    fill(input, &mut body[..size])?;
+    play(rt, Case::cut(head, &body[..size]));
+    Ok(())
+}
+
+// Plays so many cases.
+fn play_all(rt: &impl Print, input: &mut impl Read, count: u64) -> Result<(), Malformed> {
+    for case in 1..=count {
+        play_next(rt, input).map_err(|fault| Malformed::Case { fault, case })?;
+    }
+    Ok(())
+}
+
+// Plays the whole list: the number of its cases.
+fn play_list(rt: &impl Print, input: &mut impl Read) -> Result<u64, Malformed> {
+    let mut start = [0u8; Head::COUNT];
+    let at = read_full(input, &mut start);
+    if at < Head::COUNT {
+        return Err(Malformed::NoCount { at });
+    }
+    let count = store::number_at(&start, 0, Head::COUNT);
+    play_all(rt, input, count)?;
+    let mut after = [0u8; 1];
+    if read_full(input, &mut after) != 0 {
+        return Err(Malformed::LeftOver { count });
+    }
+    Ok(count)
 }
 
 fn main(rt: HostRuntime) {
-    let mut input = rt.stdin();
-    let mut start = [0u8; 2];
-    let got = read_full(&mut input, &mut start);
-    if got < Head::COUNT {
-        stop(&rt, b"cut off before its cases, at byte ", got as u64);
-        return;
-    }
-    let count = store::number_at(&start, 0, 2);
-    if !play_all(&rt, &mut input, count) {
-        return;
-    }
-    let mut after = [0u8; 1];
-    if read_full(&mut input, &mut after) != 0 {
-        stop(&rt, b"bytes left over after case ", count);
-        return;
-    }
-    let _ = println!(rt; "cases played: {count}");
+    let _ = match play_list(&rt, &mut rt.stdin()) {
+        Ok(count) => println!(rt; "cases played: {count}"),
+        Err(malformed) => println!(rt; "list of cases: {malformed}"),
+    };
 }

@@ -11,9 +11,8 @@ pub overflow_add-k : goal.overflow_add-k
 overflow_add-k c = omega (arith, few c)
 
 pub overflow_add-k-2 : goal.overflow_add-k-2
-overflow_add-k-2 c = omega (arith, few c)
+overflow_add-k-2 c = omega (arith, few (goal.at.overflow_add-k-2 c).After-number_at-k)
 
 pub returns : goal.returns
 returns c =
-    let b = c in
-    length_read _ _ _ _ (λ j. (b.type_inv.sheet j).fits) b.number_at-k.ensures c.number_at.ensures
+    length_read _ _ _ _ (λ j. (c.type_inv.sheet j).fits) c.number_at-k.ensures (rw c.from.ensures at c.number_at.ensures)

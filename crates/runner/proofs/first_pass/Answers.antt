@@ -1,37 +1,25 @@
 use native.Mathlib.Omega.{arith}
-use Rattle.runner.proofs.WholeRunReady.{slots_few, can_finish_law, whole_refused, whole_room, whole_done}
+use Rattle.runner.proofs.WholeRunFinish.{few_slots, finish_room, finish_can, finish_few, finish_done, finish_halt}
 use Rattle.runner.proofs.first_pass.Goals as goal
 
-pub returns-then-answer-ne-FINISHED : goal.returns-then-answer-ne-FINISHED
-returns-then-answer-ne-FINISHED c =
-    let i = c in
-    let y = i in
-    whole_refused _ _ _ _ _ _ _ y.prepare-ready.ensures _ _ _ i.if-answer-ne-FINISHED.true c.refused.ensures
+pub overflow_mul-slots : goal.overflow_mul-slots
+overflow_mul-slots c = record { fits = omega (arith, few_slots _ _ c.requires) }
 
-pub overflow_mul-opened : goal.overflow_mul-opened
-overflow_mul-opened c =
-    let i = c in
-    let y = i in
-    omega (arith, slots_few _ _ _ _ _ _ _ y.prepare-ready.ensures i.if-answer-ne-FINISHED.false)
+pub returns-then-out-slots : goal.returns-then-out-slots
+returns-then-out-slots c = finish_room _ _ c.args.entries _ _ _ _ c.from.ensures c.if-out-slots.true
 
-pub returns-then-out-opened : goal.returns-then-out-opened
-returns-then-out-opened c =
-    let u = c in
-    let i = u in
-    let y = i in
-    whole_room _ _ _ _ _ _ _ y.prepare-ready.ensures _ _ _ i.if-answer-ne-FINISHED.false u.if-out-opened.true _ u.unplaced.ensures c.refused-then-out-opened.ensures
+pub play_blocks-requires : goal.play_blocks-requires
+play_blocks-requires c = rw c.opening-from.ensures (finish_can _ _ c.args.entries _ _ _ c.blocks_of-k.ensures _ c.top_mask-labels.ensures c.requires)
 
-pub finish-requires : goal.finish-requires
-finish-requires c =
-    let w = c in
-    let i = w in
-    let y = i in
-    can_finish_law _ _ _ _ _ _ _ y.prepare-ready.ensures i.if-answer-ne-FINISHED.false
+pub overflow_sub-result : goal.overflow_sub-result
+overflow_sub-result c =
+    finish_few _ _ _ _ _ _ c.blocks_of-k.ensures _ c.top_mask-labels.ensures _ _ _ c.if-out-slots.false c.requires _ (rw (c.in-Ok.is, c.opening-from.ensures) at c.play_blocks.ensures)
 
-pub returns : goal.returns
-returns c =
-    let f = c in
-    let w = f in
-    let i = w in
-    let y = i in
-    whole_done _ _ _ _ _ _ _ y.prepare-ready.ensures _ _ _ i.if-answer-ne-FINISHED.false _ w.if-out-opened.false f.finish.ensures
+pub returns-in-Ok : goal.returns-in-Ok
+returns-in-Ok c =
+    finish_done _ _ _ _ _ _ c.blocks_of-k.ensures _ c.top_mask-labels.ensures _ _ _ c.if-out-slots.false _ _ (rw (c.in-Ok.is, c.opening-from.ensures) at c.play_blocks.ensures)
+    c.write_store.ensures _ c.finishing.ensures
+
+pub returns-in-Err : goal.returns-in-Err
+returns-in-Err c =
+    finish_halt _ _ _ _ _ _ c.blocks_of-k.ensures _ c.top_mask-labels.ensures _ _ _ c.if-out-slots.false _ (rw (c.in-Err.is, c.opening-from.ensures) at c.play_blocks.ensures)

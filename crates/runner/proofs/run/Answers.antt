@@ -1,8 +1,5 @@
--- What the two passes come to together is `JournalReplay`'s.
-use Rattle.runner.proofs.JournalReplay.{journal_of_law}
+use mathlib.Core.Path.{◌∙◌}
 use Rattle.runner.proofs.run.Goals as goal
 
 pub returns : goal.returns
-returns c =
-    let p = c.first_pass-first.ensures in
-    (p.answered, p.written, journal_of_law _ _ _ _ _ _ p _ _ c.replay.ensures)
+returns c = let r = c.both_passes.ensures in (c.answered.ensures ∙ r.answered_is, r.written, r.filled)

@@ -9,31 +9,19 @@ pub block_terms-terms-requires : goal.block_terms-terms-requires
 block_terms-terms-requires c = underway_tell c.loop-block.invariant (omega arith) c.requires
 
 pub go-requires : goal.go-requires
-go-requires c =
-    let b = c in
-    let l = b in
-    underway_can l.loop-block.invariant (omega arith) l.requires _ b.block_terms-terms.ensures
+go-requires c = underway_can c.loop-block.invariant (omega arith) c.requires _ c.block_terms-terms.ensures
 
-pub overflow_add-row : goal.overflow_add-row
-overflow_add-row c =
-    let a = c in
-    let b = a in
-    let l = b in
-    omega (arith, underway_row l.loop-block.invariant (omega arith) l.requires _ b.block_terms-terms.ensures _ _ _ _ _ (rw c.in-Done.is at a.go.ensures))
+pub overflow_add-at : goal.overflow_add-at
+overflow_add-at c =
+    omega (arith, underway_row c.loop-block.invariant (omega arith) c.requires _ c.block_terms-terms.ensures _ _ _ _ _ c.in-Ok.ensures)
 
 pub loop-block-preserved : goal.loop-block-preserved
 loop-block-preserved c =
-    let a = c in
-    let b = a in
-    let l = b in
-    underway_next l.loop-block.invariant (omega arith) _ b.block_terms-terms.ensures _ _ _ _ _ (rw c.in-Done.is at a.go.ensures)
+    underway_next c.loop-block.invariant (omega arith) _ c.block_terms-terms.ensures _ _ _ _ _ c.in-Ok.ensures
 
-pub returns-in-Stopped : goal.returns-in-Stopped
-returns-in-Stopped c =
-    let a = c in
-    let b = a in
-    let l = b in
-    underway_stops l.loop-block.invariant (omega arith) _ b.block_terms-terms.ensures _ _ _ _ _ _ (rw c.in-Stopped.is at a.go.ensures)
+pub returns-in-Err : goal.returns-in-Err
+returns-in-Err c =
+    underway_stops c.loop-block.invariant (omega arith) _ c.block_terms-terms.ensures _ _ _ c.in-Err.ensures
 
 pub returns : goal.returns
 returns c = underway_ends c.loop-block.invariant (omega arith)

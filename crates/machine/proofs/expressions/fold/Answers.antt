@@ -1,122 +1,59 @@
 use Prim.Native.Nat.{◌<◌}
 use mathlib.Core.Path.{refl}
 use native.Mathlib.Omega.{arith}
+use Rattle.values.specs.Refusal.{number}
 use Rattle.syntax.specs.Code.{most_nested}
 use Rattle.syntax.specs.Rows.{most_operands}
+use Rattle.machine.proofs.Exits.{exit}
 use Rattle.machine.proofs.FoldLoop.{can_read, turn_first, turn_inside, some_literal, some_room, turn_barred, turn_literal, some_wait, turn_refused, turn_read, turn_last, turn_operation}
 use Rattle.machine.proofs.expressions.fold.Goals as goal
-use Rattle.machine.proofs.expressions.fold.Goals.{At-loop-head, Else-number-ne0, then-what-lt-KINDS+else-number-ne0, else-what-lt-KINDS+else-number-ne0-2+in-128}
+use Rattle.machine.proofs.expressions.fold.Goals.{At-loop-operand, In_ok-x, then-operand-lt-KINDS+in_ok-x, else-operand-lt-KINDS+in_ok-x-2+in-128}
 
-pub loop-head-init : goal.loop-head-init
-loop-head-init c = turn_first (record { kinds = refl; numbers = refl; labels = refl })
+pub loop-operand-init : goal.loop-operand-init
+loop-operand-init c = turn_first refl
 
-within : (c : At-loop-head) → c.loop-head.o < most_operands
-within c = turn_inside c.loop-head.invariant c.requires
+within : (c : At-loop-operand) → c.loop-operand.o < most_operands
+within c = turn_inside c.loop-operand.invariant c.requires
 
-pub offset_bounds-operands-o : goal.offset_bounds-operands-o
-offset_bounds-operands-o c = omega (arith, within c)
-
-pub bounds-operands-o : goal.bounds-operands-o
-bounds-operands-o c = within c
+pub bounds-tables-o : goal.bounds-tables-o
+bounds-tables-o c = within (goal.at.bounds-tables-o c).At-loop-operand
 
 -- A literal comes
-pub read_through-x-requires : goal.read_through-x-requires
-read_through-x-requires c =
-    let p = c.requires in (can_read p, some_literal c.loop-head.invariant c.if-what-lt-KINDS.true p)
+pub read_through-requires : goal.read_through-requires
+read_through-requires c = (can_read c.requires, some_literal c.loop-operand.invariant c.if-operand-lt-KINDS.true c.requires)
 
-pub refused_value-requires : goal.refused_value-requires
-refused_value-requires c = omega (arith, c.if-number-ne0.true)
+pub returns-in_err-x : goal.returns-in_err-x
+returns-in_err-x c = rw (exit _ c.from_residual.ensures.1) (turn_barred c.loop-operand.invariant c.if-operand-lt-KINDS.true c.in_err-x.ensures)
 
-pub returns-then-number-ne0 : goal.returns-then-number-ne0
-returns-then-number-ne0 c =
-    let b = c in
-    let d = b in
-    rw c.refused_value.ensures
-    (turn_barred d.loop-head.invariant d.if-what-lt-KINDS.true b.read_through-x.result b.read_through-x.ensures c.if-number-ne0.true)
+room : (c : In_ok-x) → c.loop-operand.waiting < most_nested
+room c = some_room c.loop-operand.invariant c.if-operand-lt-KINDS.true c.requires
 
-room : (c : Else-number-ne0) → c.loop-head.waiting < most_nested
-room c = let d = c in some_room d.loop-head.invariant d.if-what-lt-KINDS.true d.requires
-
-pub offset_bounds-kinds-waiting : goal.offset_bounds-kinds-waiting
-offset_bounds-kinds-waiting c = omega (arith, room c)
-
-pub bounds-kinds-waiting : goal.bounds-kinds-waiting
-bounds-kinds-waiting c = room c
-
-pub offset_bounds-numbers-waiting : goal.offset_bounds-numbers-waiting
-offset_bounds-numbers-waiting c = omega (arith, room c)
-
-pub bounds-numbers-waiting : goal.bounds-numbers-waiting
-bounds-numbers-waiting c = room c
-
-pub offset_bounds-labels-waiting : goal.offset_bounds-labels-waiting
-offset_bounds-labels-waiting c = omega (arith, room c)
-
-pub bounds-labels-waiting : goal.bounds-labels-waiting
-bounds-labels-waiting c = room c
-
-pub overflow_add-waiting : goal.overflow_add-waiting
-overflow_add-waiting c = omega (arith, room c)
+pub bounds-stack-waiting : goal.bounds-stack-waiting
+bounds-stack-waiting c = room c
 
 -- An operation comes
-
 pub overflow_sub-waiting : goal.overflow_sub-waiting
-overflow_sub-waiting c = some_wait c.loop-head.invariant c.if-what-lt-KINDS.false c.requires
+overflow_sub-waiting c = some_wait c.loop-operand.invariant c.if-operand-lt-KINDS.false c.requires
 
-pub offset_bounds-kinds-waiting-else-what-lt-KINDS : goal.offset_bounds-kinds-waiting-else-what-lt-KINDS
-offset_bounds-kinds-waiting-else-what-lt-KINDS c = omega (arith, some_wait c.loop-head.invariant c.if-what-lt-KINDS.false c.requires, c.loop-head.invariant.few)
+pub bounds-stack-waiting-else-operand-lt-KINDS : goal.bounds-stack-waiting-else-operand-lt-KINDS
+bounds-stack-waiting-else-operand-lt-KINDS c = omega (arith, some_wait c.loop-operand.invariant c.if-operand-lt-KINDS.false c.requires, c.loop-operand.invariant.few)
 
-pub bounds-kinds-waiting-else-what-lt-KINDS : goal.bounds-kinds-waiting-else-what-lt-KINDS
-bounds-kinds-waiting-else-what-lt-KINDS c = omega (arith, some_wait c.loop-head.invariant c.if-what-lt-KINDS.false c.requires, c.loop-head.invariant.few)
-
-pub offset_bounds-numbers-waiting-else-what-lt-KINDS : goal.offset_bounds-numbers-waiting-else-what-lt-KINDS
-offset_bounds-numbers-waiting-else-what-lt-KINDS c = omega (arith, some_wait c.loop-head.invariant c.if-what-lt-KINDS.false c.requires, c.loop-head.invariant.few)
-
-pub bounds-numbers-waiting-else-what-lt-KINDS : goal.bounds-numbers-waiting-else-what-lt-KINDS
-bounds-numbers-waiting-else-what-lt-KINDS c = omega (arith, some_wait c.loop-head.invariant c.if-what-lt-KINDS.false c.requires, c.loop-head.invariant.few)
-
-pub offset_bounds-labels-waiting-else-what-lt-KINDS : goal.offset_bounds-labels-waiting-else-what-lt-KINDS
-offset_bounds-labels-waiting-else-what-lt-KINDS c = omega (arith, some_wait c.loop-head.invariant c.if-what-lt-KINDS.false c.requires, c.loop-head.invariant.few)
-
-pub bounds-labels-waiting-else-what-lt-KINDS : goal.bounds-labels-waiting-else-what-lt-KINDS
-bounds-labels-waiting-else-what-lt-KINDS c = omega (arith, some_wait c.loop-head.invariant c.if-what-lt-KINDS.false c.requires, c.loop-head.invariant.few)
-
-pub refused_value-requires-then-number-ne0-2 : goal.refused_value-requires-then-number-ne0-2
-refused_value-requires-then-number-ne0-2 c = omega (arith, c.if-number-ne0-2.true)
-
-pub returns-then-number-ne0-2 : goal.returns-then-number-ne0-2
-returns-then-number-ne0-2 c =
-    let b = c in
-    let d = b in
-    rw c.refused_value-then-number-ne0-2.ensures
-    (turn_refused d.loop-head.invariant d.if-what-lt-KINDS.false _ refl b.operate-x.result b.operate-x.ensures c.if-number-ne0-2.true)
+pub returns-in_err-x-2 : goal.returns-in_err-x-2
+returns-in_err-x-2 c =
+    rw (exit _ c.from_residual-in_err-x-2.ensures.1) (turn_refused c.loop-operand.invariant c.if-operand-lt-KINDS.false _ refl c.in_err-x-2.ensures)
 
 pub returns-in-0 : goal.returns-in-0
-returns-in-0 c =
-    let b = c in
-    let d = b in
-    turn_last d.loop-head.invariant d.if-what-lt-KINDS.false _ refl b.operate-x.result b.operate-x.ensures c.in-0.is
+returns-in-0 c = turn_last c.loop-operand.invariant c.if-operand-lt-KINDS.false _ refl _ c.in_ok-x-2.ensures c.in-0.is
 
 pub returns-in_default : goal.returns-in_default
-returns-in_default c =
-    let m = c in
-    let b = m in
-    let d = b in
-    rw c.refused_value-in_default.ensures
-    (turn_read d.loop-head.invariant d.if-what-lt-KINDS.false _ refl b.operate-x.result b.operate-x.ensures m.in_default.in_default-own.rest.0.1 m.in_default.in_default-own.rest.1)
+unfolding number
+returns-in_default c = turn_read c.loop-operand.invariant c.if-operand-lt-KINDS.false _ refl _ c.in_ok-x-2.ensures (λ i. omega arith) (λ i. omega arith)
 
-pub overflow_add-o : goal.overflow_add-o
-overflow_add-o c = omega (arith, within (goal.at.overflow_add-o c).At-loop-head)
-
-pub loop-head-smaller : goal.loop-head-smaller
-loop-head-smaller c = omega (arith, within (goal.at.loop-head-smaller c).At-loop-head)
-
-pub loop-head-preserved : goal.loop-head-preserved
-loop-head-preserved c =
-    let a = c in
-    (elim c.if-what-lt-KINDS.branch [
-      | then-what-lt-KINDS+else-number-ne0 k ↦ rw (k.kinds-is, k.numbers-is, k.labels-is, k.waiting-is, k.last-is)
-          (turn_literal a.loop-head.invariant k.if-what-lt-KINDS.true k.read_through-x.result k.read_through-x.ensures a.requires k.if-number-ne0.false)
-      | else-what-lt-KINDS+else-number-ne0-2+in-128 k ↦ rw (k.kinds-is, k.numbers-is, k.labels-is, k.waiting-is, k.last-is)
-          (turn_operation a.loop-head.invariant k.if-what-lt-KINDS.false _ refl k.operate-x.result k.operate-x.ensures k.if-number-ne0-2.false k.in-128.is)
+pub loop-operand-preserved : goal.loop-operand-preserved
+loop-operand-preserved c =
+    (elim c.if-operand-lt-KINDS.branch [
+      | then-operand-lt-KINDS+in_ok-x k ↦ rw (k.stack-is, k.waiting-is, k.last-is)
+          (turn_literal c.loop-operand.invariant k.if-operand-lt-KINDS.true k.in_ok-x.x k.in_ok-x.ensures c.requires)
+      | else-operand-lt-KINDS+in_ok-x-2+in-128 k ↦ rw (k.stack-is, k.waiting-is, k.last-is)
+          (turn_operation c.loop-operand.invariant k.if-operand-lt-KINDS.false _ refl k.in_ok-x-2.x k.in_ok-x-2.ensures k.in-128.is)
     ])

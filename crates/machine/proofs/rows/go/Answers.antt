@@ -1,43 +1,55 @@
+use mathlib.Core.Path.{refl}
 use native.Mathlib.Omega.{arith}
-use Rattle.machine.specs.Answers.{control_by}
-use Rattle.machine.proofs.Answers.{control_on, control_stopped}
-use Rattle.machine.proofs.MachineRuns.{opening, row_inside, can_move, moved, finished, halted}
+use Rattle.machine.specs.Answers.{control}
+use Rattle.machine.specs.Machine.{given_of, place_of, Moved}
+use Rattle.machine.proofs.MachineRuns.{jump_on, opening, goes_on, row_inside, moved, finished, halted}
 use Rattle.machine.proofs.rows.go.Goals as goal
+use Rattle.machine.proofs.rows.go.Goals.{Joined-row, in-Jump, in-Assign, in-Guard}
 
-pub loop-terms-init : goal.loop-terms-init
-unfolding control_by
-loop-terms-init c = opening c.requires
+pub loop-target-init : goal.loop-target-init
+loop-target-init c = opening c.requires
 
-pub offset_bounds-rows-here : goal.offset_bounds-rows-here
-offset_bounds-rows-here c = omega (arith, row_inside c.requires c.loop-terms.next c.loop-terms.invariant)
+pub offset_bounds-by-at : goal.offset_bounds-by-at
+offset_bounds-by-at c = omega (arith, row_inside c.requires c.loop-target.invariant)
 
-pub bounds-rows-here : goal.bounds-rows-here
-bounds-rows-here c = omega (arith, row_inside c.requires c.loop-terms.next c.loop-terms.invariant)
+pub bounds-by-at : goal.bounds-by-at
+bounds-by-at c = row_inside c.requires c.loop-target.invariant
 
-pub returns-then-number-ne0 : goal.returns-then-number-ne0
-returns-then-number-ne0 c =
-    let l = c in
-    halted (rw (control_stopped l.loop-terms.next c.if-number-ne0.true) at l.loop-terms.invariant) c.wide16-at.ensures
+pub returns-in-End : goal.returns-in-End
+returns-in-End c = finished c.loop-target.invariant c.in-End.is
 
-pub returns-then-r-eq-END : goal.returns-then-r-eq-END
-returns-then-r-eq-END c =
-    let l = c in
-    finished (rw (control_on l.loop-terms.next c.if-number-ne0.false) at l.loop-terms.invariant) c.if-r-eq-END.true
+pub take_assign-next-requires : goal.take_assign-next-requires
+take_assign-next-requires c =
+    record { can = goes_on c.requires c.loop-target.invariant; row = record { offset = c.in-Assign.offset; holds = c.in-Assign.is } }
 
-pub advance-next-requires : goal.advance-next-requires
-advance-next-requires c =
-    let b = c in
-    let l = b in
-    can_move l.requires (rw (control_on l.loop-terms.next b.if-number-ne0.false) at l.loop-terms.invariant) b.if-r-eq-END.false
+pub take_guard-next-requires : goal.take_guard-next-requires
+take_guard-next-requires c =
+    record { can = goes_on c.requires c.loop-target.invariant; row = record { offset = c.in-Guard.offset; holds = c.in-Guard.is } }
 
-pub loop-terms-smaller : goal.loop-terms-smaller
-loop-terms-smaller c =
-    let b = c in
-    let l = b in
-    rw (control_on l.loop-terms.next b.if-number-ne0.false) c.advance-next.ensures.less
+-- whichever row it is, it is taken
+taken : (c : Joined-row)
+    → Moved (given_of c.args.by)
+    (place_of c.loop-target.at c.loop-target.labels c.loop-target.held)
+    c.match-row.labels c.match-row.held (control c.loop-target.at c.match-row.next)
+taken c =
+    (elim c.match-row.branch [
+      | in-Jump w ↦ rw (w.labels-is, w.held-is, w.next-is, w.from.ensures) (jump_on (goes_on c.requires c.loop-target.invariant) w.in-Jump.target w.in-Jump.is)
+      | in-Assign w ↦ rw (w.labels-is, w.held-is, w.next-is) w.take_assign-next.ensures
+      | in-Guard w ↦ rw (w.labels-is, w.held-is, w.next-is) w.take_guard-next.ensures
+    ])
 
-pub loop-terms-preserved : goal.loop-terms-preserved
-loop-terms-preserved c =
-    let b = c in
-    let l = b in
-    moved (rw (control_on l.loop-terms.next b.if-number-ne0.false) at l.loop-terms.invariant) c.advance-next.ensures
+pub loop-target-smaller : goal.loop-target-smaller
+loop-target-smaller c = (rw c.in-Ok.is at (taken (goal.at.loop-target-smaller c).Joined-row)).less
+
+pub loop-target-preserved : goal.loop-target-preserved
+loop-target-preserved c = moved c.loop-target.invariant (rw c.in-Ok.is at (taken (goal.at.loop-target-preserved c).Joined-row))
+
+pub offset_bounds-by-at-in-Err : goal.offset_bounds-by-at-in-Err
+offset_bounds-by-at-in-Err c = omega (arith, row_inside c.requires c.loop-target.invariant)
+
+pub bounds-by-at-in-Err : goal.bounds-by-at-in-Err
+bounds-by-at-in-Err c = row_inside c.requires c.loop-target.invariant
+
+pub returns-in-Err : goal.returns-in-Err
+returns-in-Err c =
+    halted c.loop-target.invariant _ refl refl c.offset_of.ensures (rw c.in-Err.is at (taken (goal.at.returns-in-Err c).Joined-row))

@@ -1,80 +1,55 @@
-use mathlib.Core.Path.{◌≡◌}
+use Prim.Native.Nat.{ℕ}
+use mathlib.Core.Path.{◌≡◌, refl, ◌∙◌}
+use mathlib.Core.Logic.{inl}
 use native.Mathlib.Omega.{arith}
-use Rattle.syntax.specs.Rows.{tables_of}
-use Rattle.machine.specs.Answers.{control_by}
-use Rattle.machine.specs.Machine.{Given, given, Place, place}
-use Rattle.machine.proofs.MachineRows.{run_inside}
-use Rattle.machine.proofs.MachineSteps.{can_judge, AssignRow, assign_level, assign_operands, assign_slot, assign_few, assign_on, assign_stops, full_stops}
+use Rattle.std.proofs.Common.{Ok}
+use Rattle.values.specs.Refusal.{number}
+use Rattle.syntax.specs.Rows.{assign_kind}
+use Rattle.machine.specs.declared.rows.Place.{Place as At}
+use Rattle.machine.specs.Machine.{Given, Place, CanStep, IsAssign, Due}
+use Rattle.machine.proofs.Exits.{exit}
+use Rattle.machine.proofs.CompiledTables.{kind_assign}
+use Rattle.machine.proofs.MachineRuns.{spent_stops, can_step}
+use Rattle.machine.proofs.MachineSteps.{assign_slot, assign_few, assign_on, assign_stops, full_stops}
 use Rattle.machine.proofs.rows.take_assign.Goals as goal
-use Rattle.machine.proofs.rows.take_assign.Goals.{After-wide16-value, Start}
 
-pub returns-then-free-eq0 : goal.returns-then-free-eq0
-unfolding control_by
-returns-then-free-eq0 c = full_stops c.requires c.if-free-eq0.true
+pub returns-in_err-due : goal.returns-in_err-due
+unfolding Due number
+returns-in_err-due c =
+    let n = c.requires in
+    let e = c.in_err-due.ensures in
+    rw (exit _ c.from_residual.ensures.1, e.1) (spent_stops n.can (inl (kind_assign n.row.holds)) e.0)
 
-pub offset_bounds-rows-row : goal.offset_bounds-rows-row
-offset_bounds-rows-row c = omega (arith, run_inside c.requires.can.goes.runs)
+-- a step is left, so the assignment is judged
+module _ {g : Given} {p : Place} {depth target value : ℕ} (n : IsAssign g p depth target value) where
+  pub step : (at : At) → Due at g.budget (Ok tt) → at.steps ≡ p.steps → CanStep assign_kind g p
+  unfolding Due
+  step at d e = can_step n.can (kind_assign n.row.holds) (λ q. d (e ∙ q))
 
-pub bounds-rows-row : goal.bounds-rows-row
-bounds-rows-row c = omega (arith, run_inside c.requires.can.goes.runs)
+pub returns-then-at-eq0 : goal.returns-then-at-eq0
+unfolding number
+returns-then-at-eq0 c = full_stops (step c.requires c.args.at c.in_ok-due.ensures refl) c.if-at-eq0.true
 
--- the row's numbers, as they were read
-abbrev start : After-wide16-value → Start
-start c = c.before.before.before.before.before
-
-abbrev gives : Start → Given
-gives s = given s.args.terms s.args.masks.now (tables_of s.args.rows.now s.args.operands.now s.args.payloads.now) s.args.budget
-
-abbrev stands : Start → Place
-stands s = place s.args.row s.args.steps s.args.free s.args.labels.now s.args.held.now
-
-read : (c : After-wide16-value)
-    → AssignRow (gives (start c)) (stands (start c)) c.wide16-depth.result c.wide16-target.result c.wide16-value.result
-read c = record { depth_is = c.wide16-depth.ensures; target_is = c.wide16-target.ensures; value_is = c.wide16-value.ensures }
-
-pub offset_bounds-labels-depth : goal.offset_bounds-labels-depth
-offset_bounds-labels-depth c = omega (arith, assign_level (start c).requires (read c))
-
-pub bounds-labels-depth : goal.bounds-labels-depth
-bounds-labels-depth c = omega (arith, assign_level (start (goal.at.bounds-labels-depth c).After-wide16-value).requires (read (goal.at.bounds-labels-depth c).After-wide16-value))
-
-pub assign-made-requires : goal.assign-made-requires
-assign-made-requires c =
-    let b = c in
-    let p = (start (goal.at.assign-made-requires c).After-wide16-value).requires in
-    (can_judge p.can, (assign_operands p (read (goal.at.assign-made-requires c).After-wide16-value)).0, (assign_operands p (read (goal.at.assign-made-requires c).After-wide16-value)).1)
-
--- an entry is free
-free : (c : After-wide16-value) → (start c).args.free ≡ 0 → ⊥
-free c = c.if-free-eq0.false
-
-pub returns-then-number-ne0 : goal.returns-then-number-ne0
-returns-then-number-ne0 c =
-    let b = c in
-    assign_stops (start (goal.at.returns-then-number-ne0 c).After-wide16-value).requires (read (goal.at.returns-then-number-ne0 c).After-wide16-value) c.assign-made.result c.assign-made.ensures (free (goal.at.returns-then-number-ne0 c).After-wide16-value) c.if-number-ne0.true
+pub returns-in_err-write : goal.returns-in_err-write
+returns-in_err-write c =
+    let n = c.requires in
+    rw (exit _ c.from_residual-in_err-write.ensures.1)
+    (assign_stops (step n c.args.at c.in_ok-due.ensures refl) n.row c.if-at-eq0.false (rw (c.from.ensures, c.from-2.ensures, c.from-3.ensures) at c.in_err-write.ensures))
 
 pub put-requires : goal.put-requires
 put-requires c =
-    let a = c in
-    let b = a in
-    let e = c.if-number-ne0.false in (
-      assign_slot (start (goal.at.put-requires c).After-wide16-value).requires (read (goal.at.put-requires c).After-wide16-value) a.assign-made.result a.assign-made.ensures e,
-      omega (arith, assign_few (start (goal.at.put-requires c).After-wide16-value).requires (read (goal.at.put-requires c).After-wide16-value) a.assign-made.result a.assign-made.ensures e),
+    let n = c.requires in
+    let d = step n c.args.at c.in_ok-due.ensures refl in
+    let a = rw (c.from.ensures, c.from-2.ensures, c.from-3.ensures) at c.in_ok-write.ensures in (
+      assign_slot d n.row c.in_ok-write.write a,
+      omega (arith, assign_few d n.row c.in_ok-write.write a),
     )
 
-pub overflow_add-result : goal.overflow_add-result
-overflow_add-result c =
-    let b = c in
-    omega (arith, (start (goal.at.overflow_add-result c).After-wide16-value).requires.left)
-
 pub overflow_add-result-2 : goal.overflow_add-result-2
-overflow_add-result-2 c =
-    let b = c in
-    omega (arith, run_inside (start (goal.at.overflow_add-result-2 c).After-wide16-value).requires.can.goes.runs)
+overflow_add-result-2 c = omega (arith, (step c.requires c.args.at c.in_ok-due.ensures refl).left)
 
 pub returns : goal.returns
-unfolding control_by
 returns c =
-    let a = c in
-    let b = a in
-    assign_on (start (goal.at.returns c).After-wide16-value).requires (read (goal.at.returns c).After-wide16-value) a.assign-made.result a.assign-made.ensures (free (goal.at.returns c).After-wide16-value) c.if-number-ne0.false c.put.ensures
+    let n = c.requires in
+    assign_on (step n c.args.at c.in_ok-due.ensures refl) n.row c.in_ok-write.write (rw (c.from.ensures, c.from-2.ensures, c.from-3.ensures) at c.in_ok-write.ensures)
+    c.if-at-eq0.false c.put.ensures

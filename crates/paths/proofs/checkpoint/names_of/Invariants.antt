@@ -1,4 +1,4 @@
-use Prim.Native.Nat.{ℕ, ◌+◌, ◌-◌, ◌<◌}
+use Prim.Native.Nat.{ℕ, ◌+◌, ◌<◌}
 use mathlib.Core.Path.{◌≡◌}
 use mathlib.Core.List.{List}
 use lib.ListN.{length, get_or}
@@ -10,6 +10,3 @@ use Rattle.paths.proofs.checkpoint.names_of.Given as goal
 abbrev pub invariant-loop-j : goal.invariant-loop-j
 invariant-loop-j l =
     (length l.names ≡ most_deep + 1) × ((x : List Label) → LabelsHeld l.table x l.labels → (q : ℕ) → q < l.j → get_or l.names q 0 ≡ get_or x q 0)
-
-abbrev pub decreases-loop-j : goal.decreases-loop-j
-decreases-loop-j l = most_deep + 1 - l.j

@@ -10,9 +10,6 @@ decreases-blank_all l = 2 * (length l.code.now - l.at) + 1
 abbrev pub decreases-blank_end : goal.decreases-blank_end
 decreases-blank_end l = 2 * (length l.code.now - l.at)
 
--- what is left from here on is what was left from the first on, and there were no rows
-abbrev pub invariant-blank_all-loop-left : goal.invariant-blank_all-loop-left
-invariant-blank_all-loop-left l = (l.at ≤ l.here) × ((end total : ℕ) → Left l.code l.at l.n 0 end total → Left l.code l.here l.left 0 end total)
-
-abbrev pub decreases-blank_all-loop-left : goal.decreases-blank_all-loop-left
-decreases-blank_all-loop-left l = l.left
+-- what is left from `end` on is what was left from the first on, and there were no rows
+abbrev pub invariant-blank_all-loop : goal.invariant-blank_all-loop
+invariant-blank_all-loop l = (l.at ≤ l.end) × ((end total : ℕ) → Left l.code l.at l.n 0 end total → Left l.code l.end (l.n - l.counter) 0 end total)

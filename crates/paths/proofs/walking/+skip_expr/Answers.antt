@@ -8,12 +8,6 @@ bounds-code-at t c = expr_inside _ _ c.requires
 pub overflow_add-result : goal.overflow_add-result
 overflow_add-result t c = omega (arith, literal_fits _ _ c.in-16.is c.requires)
 
-pub overflow_add-result-in-16 : goal.overflow_add-result-in-16
-overflow_add-result-in-16 t c = omega (arith, literal_fits _ _ c.in-16.is c.requires)
-
-pub overflow_add-at : goal.overflow_add-at
-overflow_add-at t c = omega (arith, expr_inside _ _ c.requires)
-
 pub skip_expr-requires : goal.skip_expr-requires
 skip_expr-requires t c = (omega (arith, c.decreases, expr_inside _ _ c.requires), some_read _ _ c.in-17.is c.requires)
 

@@ -13,9 +13,6 @@ decreases-span_at l = 2 * (length l.code.now - l.at) + 1
 abbrev pub decreases-span_if : goal.decreases-span_if
 decreases-span_if l = 2 * (length l.code.now - l.at)
 
--- what is left from here on is what was left from the first on
-abbrev pub invariant-span_all-loop-left : goal.invariant-span_all-loop-left
-invariant-span_all-loop-left l = (l.at ≤ l.here) × ((end total : ℕ) → Left l.code l.at l.n 0 end total → Left l.code l.here l.left l.rows end total)
-
-abbrev pub decreases-span_all-loop-left : goal.decreases-span_all-loop-left
-decreases-span_all-loop-left l = l.left
+-- what is left from `end` on is what was left from the first on
+abbrev pub invariant-span_all-loop : goal.invariant-span_all-loop
+invariant-span_all-loop l = (l.at ≤ l.end) × ((end total : ℕ) → Left l.code l.at l.n 0 end total → Left l.code l.end (l.n - l.counter) l.rows end total)

@@ -1,23 +1,24 @@
-use Prim.Native.Nat.{◌+◌, ◌≤◌}
+use Prim.Native.Nat.{◌+◌}
+use mathlib.Core.Path.{refl}
 use native.Mathlib.Omega.{arith}
-use lib.ListN.{length}
-use Rattle.values.specs.Value.{value_width}
-use Rattle.reader.proofs.CodeReaderValues.{literal_refused, literal_read, value_within}
+use Rattle.values.specs.Result.{◌>>=◌}
+use Rattle.values.proofs.Result.{post_at}
+use Rattle.syntax.specs.Syntax.{literal}
+use Rattle.syntax.specs.Code.{read_literal}
+use Rattle.syntax.specs.Rows.{postfix}
+use Rattle.syntax.proofs.RowsByteSpans.{value_spans}
+use Rattle.reader.proofs.CodeReaderTables.{own_put}
+use Rattle.reader.proofs.CodeReaderParts.{refused, handed_on}
 use Rattle.reader.proofs.literals.read_literal.Goals as goal
-use Rattle.reader.proofs.literals.read_literal.Goals.{In-Value}
 
-within : (c : In-Value) → let d = c in
-    d.args.at + 1 + value_width ≤ length d.args.code.now
-within c = value_within _ _ _ _ c.read_value.ensures _ _ c.in-Value.is
+pub returns-in_err-value : goal.returns-in_err-value
+unfolding read_literal ◌>>=◌
+returns-in_err-value c =
+    handed_on _ _ c.from_residual.result c.from_residual.ensures (refused refl (rw c.in_err-value.ensures))
 
-pub bounds-operands-operand : goal.bounds-operands-operand
-bounds-operands-operand c = omega (arith, within c)
+pub bounds-tables-from : goal.bounds-tables-from
+bounds-tables-from c = omega (arith, (post_at _ _ _ _ (value_spans c.args.slots c.args.code.now (c.args.from.at + 1)) c.in_ok-value.ensures).within)
 
-pub bounds-payloads-operand : goal.bounds-payloads-operand
-bounds-payloads-operand c = omega (arith, within (goal.at.bounds-payloads-operand c).In-Value)
-
-pub returns-in-Value : goal.returns-in-Value
-returns-in-Value c rows = literal_read _ _ _ _ _ _ _ _ _ _ _ c.read_value.ensures _ _ c.in-Value.is
-
-pub returns-in-Refused : goal.returns-in-Refused
-returns-in-Refused c rows = literal_refused _ _ _ _ _ _ _ _ _ _ _ c.read_value.ensures _ _ c.in-Refused.is
+pub returns : goal.returns
+unfolding read_literal postfix ◌>>=◌
+returns c = record { tree = literal c.in_ok-value.value; is = rw c.in_ok-value.ensures; emitted = own_put _ _ _ _ refl refl }

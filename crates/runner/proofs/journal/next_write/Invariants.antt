@@ -1,14 +1,14 @@
 use Prim.Native.Nat.{◌-◌}
-use lib.ListN.{get_or}
-use Rattle.syntax.specs.Rows.{tables_of}
 use Rattle.syntax.specs.Sheet.{k_of}
+use Rattle.machine.specs.BlockRuns.{played_of}
 use Rattle.runner.specs.Journal.{replayed, seated}
 use Rattle.runner.proofs.JournalSeat.{Onwards}
 use Rattle.runner.proofs.journal.next_write.Given as goal
 
-abbrev pub invariant-loop-last : goal.invariant-loop-last
-invariant-loop-last l =
-    Onwards (replayed l.programme (tables_of l.rows l.operands l.payloads) l.first) (seated l.initial.labels l.initial.held l.initial.seat) (seated l.labels l.held l.seat)
+-- from here comes the write that was next
+abbrev pub invariant-loop-end : goal.invariant-loop-end
+invariant-loop-end l =
+    Onwards (replayed l.programme (played_of l.by)) (seated l.initial.labels l.initial.held l.initial.place) (seated l.labels l.held l.place)
 
-abbrev pub decreases-loop-last : goal.decreases-loop-last
-decreases-loop-last l = k_of l.programme - get_or l.seat 0 0
+abbrev pub decreases-loop-end : goal.decreases-loop-end
+decreases-loop-end l = k_of l.programme - l.place.block

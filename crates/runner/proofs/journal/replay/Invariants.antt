@@ -1,15 +1,9 @@
--- The invariant: i writes were made, and the others are left (`Filling`). The measure is how many are left.
-use Rattle.std.proofs.Common.{◌-◌, ◌≤◌}
-use Rattle.syntax.specs.Rows.{tables_of}
-use Rattle.runner.specs.Journal.{replayed, seated, opens}
+-- The invariant: as many writes were made as entries are filled, and the others are left (`Filling`).
+use Rattle.machine.specs.BlockRuns.{played_of}
+use Rattle.runner.specs.Journal.{replayed, seated}
 use Rattle.runner.proofs.JournalReplay.{Filling}
 use Rattle.runner.proofs.journal.replay.Given as goal
 
-abbrev pub invariant-loop-i : goal.invariant-loop-i
-invariant-loop-i l =
-    (l.i ≤ l.count)
-    × Filling (replayed l.programme (tables_of l.rows l.operands l.payloads) l.first) (opens l.fn.held) l.fn.journal (l.count - l.i) l.i
-    (seated l.labels l.held l.seat) l.journal
-
-abbrev pub decreases-loop-i : goal.decreases-loop-i
-decreases-loop-i l = l.count - l.i
+abbrev pub invariant-loop-entry : goal.invariant-loop-entry
+invariant-loop-entry l =
+    Filling (replayed l.programme (played_of l.by)) l.fn.held l.writes l.entry-index (seated l.labels l.held l.place) l.entry-items

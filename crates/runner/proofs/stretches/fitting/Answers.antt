@@ -1,10 +1,6 @@
-use native.Mathlib.Omega.{arith}
 use borrow.Author.Tests.{eq-eqb, ne_eqb}
 use Rattle.lattice.specs.Tests.{◌and◌}
 use Rattle.runner.proofs.stretches.fitting.Goals as goal
-
-pub overflow_mul-slots : goal.overflow_mul-slots
-overflow_mul-slots c = omega (arith, c.requires)
 
 pub returns-then-out-slots : goal.returns-then-out-slots
 unfolding ◌and◌

@@ -8,13 +8,13 @@ use Rattle.runner.proofs.stretches.locate.Goals as goal
 use Rattle.runner.proofs.stretches.locate.Goals.{After-length_at, After-length_at-2, After-rows_in}
 
 pub overflow_mul-start : goal.overflow_mul-start
-overflow_mul-start c = let p = c.requires in omega (arith, c.number_at-k.ensures, p.lengths.few)
+overflow_mul-start c = let p = c.requires in omega (arith, c.blocks_of-k.ensures, p.lengths.few)
 
 pub overflow_add-start : goal.overflow_add-start
-overflow_add-start c = let p = c.requires in omega (arith, c.number_at-k.ensures, p.lengths.few)
+overflow_add-start c = let p = c.requires in omega (arith, c.blocks_of-k.ensures, p.lengths.few)
 
 pub loop-i-init : goal.loop-i-init
-loop-i-init c = (omega arith, passed_none _ c.number_at-k.result _ c.number_at-k.ensures refl)
+loop-i-init c = passed_none _ c.blocks_of-k.result _ c.blocks_of-k.ensures refl
 
 pub overflow_cast-i : goal.overflow_cast-i
 overflow_cast-i c = let p = c.requires in omega (arith, p.lengths.few, p.inside)
@@ -22,7 +22,7 @@ overflow_cast-i c = let p = c.requires in omega (arith, p.lengths.few, p.inside)
 -- what is known of the block that is passed
 abbrev passed : (c : After-length_at)
     → Passed c.args.programme.now c.loop-i.i c.loop-i.start c.loop-i.row
-passed c = c.loop-i.invariant.1
+passed c = c.loop-i.invariant
 
 abbrev pre : (c : After-length_at) → CanLocate c.args.programme.now c.args.block
 pre c = c.requires
@@ -43,7 +43,7 @@ rows_in-requires c =
 few : (c : After-rows_in) → c.loop-i.row + (c.rows_in.result + 1) ≤ most_code
 few c =
     let p = c.requires in
-    let v = c.loop-i.invariant.1 in
+    let v = c.loop-i.invariant in
     let h : c.loop-i.i < k_of c.args.programme.now = omega (arith, p.inside) in
     let l = c.length_at.ensures.0 in
     omega (arith, next_slim v p.lengths h _ l _ c.rows_in.ensures p.slots p.blocks p.reads, next_small v p.lengths h _ l)
@@ -58,7 +58,7 @@ pub loop-i-preserved : goal.loop-i-preserved
 loop-i-preserved c =
     let d = c in
     let p = pre (goal.at.loop-i-preserved c).After-length_at in
-    (omega arith, passed_next (passed (goal.at.loop-i-preserved c).After-length_at) p.lengths (here (goal.at.loop-i-preserved c).After-length_at) _ d.length_at.ensures.0 _ c.rows_in.ensures p.slots p.blocks p.reads)
+    passed_next (passed (goal.at.loop-i-preserved c).After-length_at) p.lengths (here (goal.at.loop-i-preserved c).After-length_at) _ d.length_at.ensures.0 _ c.rows_in.ensures p.slots p.blocks p.reads
 
 pub overflow_cast-block : goal.overflow_cast-block
 overflow_cast-block c = let p = c.requires in omega (arith, p.lengths.few, p.inside)
@@ -71,7 +71,7 @@ passed-all : (c : After-length_at-2)
     → Passed c.args.programme.now c.args.block c.loop-i.start c.loop-i.row
 passed-all c =
     let e : c.loop-i.i ≡ c.args.block = omega arith in
-    rw e at c.loop-i.invariant.1
+    rw e at c.loop-i.invariant
 
 pub overflow_add-end-2 : goal.overflow_add-end-2
 overflow_add-end-2 c = let p = pre-last c in omega (arith, next_fits (passed-all c) p.lengths p.inside _ c.length_at-2.ensures.0)

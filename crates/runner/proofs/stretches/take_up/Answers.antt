@@ -6,7 +6,7 @@ use Rattle.syntax.specs.Sheet.{k_of}
 use Rattle.values.proofs.BytesNumbers.{number_lt}
 use Rattle.runner.proofs.StretchTakeUp.{no_block, no_output, take_small, take_locate, take_ordered, take_resume, no_path, taken_up, taken_few}
 use Rattle.runner.proofs.stretches.take_up.Goals as goal
-use Rattle.runner.proofs.stretches.take_up.Goals.{After-locate-code, After-number_at-steps, After-output_good, After-wide8-block}
+use Rattle.runner.proofs.stretches.take_up.Goals.{then-k-block-via-then-k-block, then-k-block-via-else-k-block+then-not-output_good, After-locate-start, After-number_at-steps, After-output_good, After-from-block}
 
 -- the steps have four bytes
 few : (c : After-number_at-steps) → c.number_at-steps.result < 2 ^ 32
@@ -17,44 +17,41 @@ overflow_cast-steps c = record { fits = few c }
 
 pub returns-then-k-block : goal.returns-then-k-block
 returns-then-k-block c =
-    let n = c in
-    no_block _ _ _ _ _ _ _ (omega (arith, n.number_at-k.ensures, c.if-k-block.true)) n.wide8-block.ensures
+    elim c.then-k-block.branch [
+      | then-k-block-via-then-k-block w ↦ no_block _ _ _ _ _ _ _ (omega (arith, c.blocks_of-k.ensures, w.if-k-block.true)) c.from-block.ensures
+      | then-k-block-via-else-k-block+then-not-output_good w ↦
+          no_output _ _ _ _ _ _ _ c.number_at-steps.ensures (sym w.output_good.ensures ∙ w.if-not-output_good.true)
+    ]
 
 pub output_good-requires : goal.output_good-requires
 output_good-requires c = take_small _ _ _ _ _ _ c.requires
 
-pub returns-then-not-output_good : goal.returns-then-not-output_good
-returns-then-not-output_good c =
-    let o = c in
-    let n = o in
-    no_output _ _ _ _ _ _ _ n.number_at-steps.ensures (sym o.output_good.ensures ∙ c.if-not-output_good.true)
-
 -- the block is one of the programme's
-inside : (c : After-output_good) → c.wide8-block.result < k_of c.args.programme.now
-inside c = let n = c in omega (arith, n.number_at-k.ensures, c.if-k-block.false)
+inside : (c : After-output_good) → c.from-block.result < k_of c.args.programme.now
+inside c = let n = c in omega (arith, n.blocks_of-k.ensures, c.if-k-block.false)
 
-pub locate-code-requires : goal.locate-code-requires
-locate-code-requires c =
+pub locate-start-requires : goal.locate-start-requires
+locate-start-requires c =
     let o = c in
-    take_locate _ _ _ _ _ _ o.requires _ (inside (goal.at.locate-code-requires c).After-output_good)
+    take_locate _ _ _ _ _ _ o.requires _ (inside (goal.at.locate-start-requires c).After-output_good)
 
 -- where the block lies
-ordered : (c : After-locate-code) → (c.locate-code.result.start ≤ c.locate-code.result.end) × (c.locate-code.result.end ≤ length c.args.programme.now)
-ordered c = take_ordered _ _ _ _ _ _ (omega (arith, c.number_at-k.ensures, c.if-k-block.false)) c.wide8-block.ensures _ c.locate-code.ensures _ c.requires
+ordered : (c : After-locate-start) → (c.locate-start.result.start ≤ c.locate-start.result.end) × (c.locate-start.result.end ≤ length c.args.programme.now)
+ordered c = take_ordered _ _ _ _ _ _ (omega (arith, c.blocks_of-k.ensures, c.if-k-block.false)) c.from-block.ensures _ c.locate-start.ensures _ c.requires
 
 pub slice_bounds-resume-start : goal.slice_bounds-resume-start
-slice_bounds-resume-start c = (ordered c).0
+slice_bounds-resume-start c = (ordered (goal.at.slice_bounds-resume-start c).After-locate-start).0
 
 pub slice_bounds-resume-end : goal.slice_bounds-resume-end
-slice_bounds-resume-end c = (ordered c).1
+slice_bounds-resume-end c = (ordered (goal.at.slice_bounds-resume-end c).After-locate-start).1
 
 pub slice_bounds-resume-count : goal.slice_bounds-resume-count
-slice_bounds-resume-count c = (ordered c).0
+slice_bounds-resume-count c = (ordered (goal.at.slice_bounds-resume-count c).After-locate-start).0
 
 pub resume-requires : goal.resume-requires
 resume-requires c =
     let l = c in
-    take_resume _ _ _ _ _ _ (inside (goal.at.resume-requires c).After-output_good) c.wide8-block.ensures _ l.locate-code.ensures _ c.requires
+    take_resume _ _ _ _ _ _ (inside (goal.at.resume-requires c).After-output_good) c.from-block.ensures _ l.locate-start.ensures _ c.requires
 
 pub open_output-requires : goal.open_output-requires
 open_output-requires c = let l = c in take_small _ _ _ _ _ _ c.requires
@@ -63,23 +60,17 @@ pub overflow_add-result : goal.overflow_add-result
 overflow_add-result c = record {
   fits = omega (
     arith,
-    taken_few _ _ _ _ _ _ (inside (goal.at.overflow_add-result c).After-output_good) c.wide8-block.ensures _ c.locate-code.ensures _ _ _ _ (rw c.in-At.is at c.resume.ensures) c.number_at-steps.ensures
+    taken_few _ _ _ _ _ _ (inside (goal.at.overflow_add-result c).After-output_good) c.from-block.ensures _ c.locate-start.ensures _ _ _ _ c.in_ok-past.ensures c.number_at-steps.ensures
         (sym c.output_good.ensures ∙ c.if-not-output_good.false) c.open_output.ensures _ c.requires,
   );
 }
 
-pub returns-in-At : goal.returns-in-At
-returns-in-At c =
-    let o = c in
-    let m = o in
-    let q = m in
-    let l = q in
-    let n = c in
-    taken_up _ _ _ _ _ _ (inside (goal.at.returns-in-At c).After-output_good) c.wide8-block.ensures _ l.locate-code.ensures _ _ _ _ (rw m.in-At.is at q.resume.ensures) n.number_at-steps.ensures
-    (sym c.output_good.ensures ∙ l.if-not-output_good.false) o.open_output.ensures
+pub returns : goal.returns
+returns c =
+    taken_up _ _ _ _ _ _ (inside (goal.at.returns c).After-output_good) c.from-block.ensures _ c.locate-start.ensures _ _ _ _ c.in_ok-past.ensures c.number_at-steps.ensures
+    (sym c.output_good.ensures ∙ c.if-not-output_good.false) c.open_output.ensures
 
-pub returns-in-Bad : goal.returns-in-Bad
-returns-in-Bad c =
-    let q = c in
-    let l = q in
-    no_path _ _ _ _ _ _ (inside (goal.at.returns-in-Bad c).After-output_good) c.wide8-block.ensures _ l.locate-code.ensures _ (rw c.in-Bad.is at q.resume.ensures)
+pub returns-in_err-past : goal.returns-in_err-past
+returns-in_err-past c =
+    rw c.from_residual.ensures
+    (no_path _ _ _ _ _ _ (inside (goal.at.returns-in_err-past c).After-output_good) c.from-block.ensures _ c.locate-start.ensures _ c.in_err-past.ensures)

@@ -1,41 +1,27 @@
-use Prim.Native.Nat.{ℕ}
-use mathlib.Core.Path.{◌≡◌, sym, ◌∙◌}
-use mathlib.Core.List.{List}
-use Rattle.values.specs.Result.{refusal_of}
-use Rattle.store.specs.Sheet.{n_of, m_of, store_sheet}
-use Rattle.store.specs.HeldStore.{Sized}
-use Rattle.store.proofs.Sheet.{refused_opened, refused_held, store_sized, store_opened, store_held}
+use Rattle.std.proofs.Common.{◌∙◌}
+use Rattle.std.proofs.lemmas.Result.{err_from_is_err_and}
+use Rattle.values.specs.Refusal.{said}
+use Rattle.store.specs.Sheet.{tables_of, opening_of}
+use Rattle.store.specs.HeldStore.{opened_of}
+use Rattle.store.proofs.Sheet.{refused_opened, refused_held, store_opened, store_held}
 use Rattle.store.proofs.held.open_store.Goals as goal
-use Rattle.store.proofs.held.open_store.Goals.{Else-refusal-ne0}
 
--- the sheet was not refused
-abbrev bytes : Else-refusal-ne0 → List ℕ
-bytes c = c.args.sheet.now
+pub returns-in_err-sheet-clause-opened : goal.returns-in_err-sheet-clause-opened
+unfolding said
+returns-in_err-sheet-clause-opened c =
+    let p = err_from_is_err_and c.from_residual.result c.from_residual.ensures.1 in
+    rw (p.1, p.2) (refused_opened _ _ c.in_err-sheet.ensures)
 
-fine : (c : Else-refusal-ne0) → refusal_of (store_sheet (bytes c)) ≡ 0
-fine c = sym c.check_store-refusal.ensures ∙ c.if-refusal-ne0.false
+pub returns-in_err-sheet-clause-held : goal.returns-in_err-sheet-clause-held
+returns-in_err-sheet-clause-held c = refused_held _ _ c.in_err-sheet.ensures _
 
-sized : (c : Else-refusal-ne0) → Sized (bytes c) (n_of (bytes c)) (m_of (bytes c))
-sized c = store_sized (bytes c) (fine c)
+pub returns-clause-opened : goal.returns-clause-opened
+unfolding said opened_of opening_of tables_of
+returns-clause-opened c =
+    let sheet = c.in_ok-sheet in
+    rw (sheet.sheet.sized.slots, c.order.ensures, sheet.ensures.0) (store_opened _ sheet.ensures.1)
 
-pub returns-then-refusal-ne0 : goal.returns-then-refusal-ne0
-returns-then-refusal-ne0 c =
-    let h : refusal_of (store_sheet c.args.sheet.now) ≡ 0 → ⊥ =
-    λ e. c.if-refusal-ne0.true (c.check_store-refusal.ensures ∙ e) in
-    (rw c.check_store-refusal.ensures (refused_opened _ h), refused_held _ _ h)
-
-pub fill_held-requires : goal.fill_held-requires
-fill_held-requires c =
-    rw (c.number_at-n.ensures, c.number_at-slots.ensures) (sized (goal.at.fill_held-requires c).Else-refusal-ne0)
-
-pub order_of-table-requires : goal.order_of-table-requires
-order_of-table-requires c =
-    let e = c.number_at-n.ensures in
-    (e, rw e (sized (goal.at.order_of-table-requires c).Else-refusal-ne0).few)
-
-pub returns : goal.returns
-returns c =
-    let d = c in (
-      rw (d.if-refusal-ne0.false, c.number_at-slots.ensures, c.order_of-table.ensures) (store_opened (bytes (goal.at.returns c).Else-refusal-ne0) (fine (goal.at.returns c).Else-refusal-ne0)),
-      c.fill_held.ensures ∙ store_held (bytes (goal.at.returns c).Else-refusal-ne0) (fine (goal.at.returns c).Else-refusal-ne0) _,
-    )
+pub returns-clause-held : goal.returns-clause-held
+returns-clause-held c =
+    let sheet = c.in_ok-sheet in
+    c.fill_held.ensures ∙ rw sheet.ensures.0 (store_held _ sheet.ensures.1 _)

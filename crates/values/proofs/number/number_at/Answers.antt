@@ -1,37 +1,15 @@
-use Rattle.std.proofs.Common.{ℕ, ◌+◌, ◌-◌, ◌*◌, ◌^◌, ◌<◌, get_or, ◌∙◌, ap₂, arith}
-use Rattle.values.specs.Bytes.{number_at}
-use Rattle.values.proofs.BytesNumbers.{number_fits, number_none, number_step}
+use Rattle.std.proofs.Common.{sym, ◌∙◌, arith}
+use Rattle.std.proofs.lemmas.List.{take_rest}
+use Rattle.values.proofs.BytesNumbers.{number_of_part, number_past}
 use Rattle.values.proofs.number.number_at.Goals as goal
-use Rattle.values.proofs.number.number_at.Goals.{After-byte_at, else-width-lt8, then-width-lt8}
 
--- a byte is read: each is below 256, and the sum with it fits
-abbrev Read : Type 0
-Read = After-byte_at
+pub returns-in-Some : goal.returns-in-Some
+returns-in-Some c =
+    let s = c.args.s.now in
+    let found = c.in-Some.ensures.lookup.0 in
+    c.number_in.ensures
+    ∙ rw (found.2 ∙ take_rest s c.args.at)
+    (number_of_part s c.args.at _ _ (omega (arith, found.3)) (omega (arith, found.3)) (λ h. omega (arith, found.3)))
 
-byte : (c : Read) (i : ℕ) → get_or c.args.s.now i 0 < 256
-byte c i = (c.type_inv.s i).fits
-
-fits : (c : Read) → c.loop-left.sum * 256 + 255 < 2 ^ 64
-fits c = number_fits _ (byte c) _ _ (omega arith) c.loop-left.invariant.2
-
-pub loop-left-init : goal.loop-left-init
-loop-left-init c =
-    ((elim c.if-width-lt8.branch [ then-width-lt8 w ↦ omega arith | else-width-lt8 w ↦ omega arith ]), omega arith, number_none _ _ _ (omega arith))
-
-pub overflow_mul-sum : goal.overflow_mul-sum
-overflow_mul-sum c = omega (arith, fits c)
-
-pub overflow_add-sum : goal.overflow_add-sum
-overflow_add-sum c =
-    omega (arith, fits c, byte c (c.args.at + (c.loop-left.left - 1)))
-
-pub loop-left-preserved : goal.loop-left-preserved
-loop-left-preserved c = (
-  c.loop-left.invariant.0,
-  omega arith,
-  number_step _ _ _ _ _ c.byte_at.ensures c.loop-left.invariant.2 (omega arith) (omega arith),
-)
-
-pub returns : goal.returns
-returns c =
-    c.loop-left.invariant.2 ∙ ap₂ (λ (x y : ℕ). number_at x c.args.s.now y) (omega arith) (omega arith)
+pub returns-in-None : goal.returns-in-None
+returns-in-None c = sym (number_past _ _ _ (grind arith))

@@ -1,5 +1,0 @@
-use Rattle.lines.proofs.Lines.{answer_put}
-use Rattle.lines.proofs.putting.put_answer.Goals as goal
-
-pub returns : goal.returns
-returns c = answer_put c.args.a c.put_fields-end.ensures c.put_bytes.ensures
