@@ -9,7 +9,7 @@
  * must not overlap each other, a sheet or what is carried on from. The calls
  * keep no pointer, take no memory from the heap and hold no state, so threads
  * may call them at the same time over buffers of their own. A call takes about
- * 88 KiB of stack.
+ * 106 KiB of stack.
  *
  * A call's time is bounded by the bytes of its sheets and by its budget: the
  * bytes are gone over once, before the first step, and skips and sequences

@@ -36,7 +36,7 @@ Long work in slices, where the checkpoint may be kept in a file between two:
 
 The library is the file that the variable MUNTYZHAP_LIBRARY names, else the one
 that was installed with this module or built in its repository, else the one that
-the system's loader finds. A call takes about 88 KiB of stack, and other threads
+the system's loader finds. A call takes about 106 KiB of stack, and other threads
 run meanwhile.
 
 The module is not proved; tests hold it to the library and to muntyzhap.h.

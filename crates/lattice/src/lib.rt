@@ -15,6 +15,7 @@ pub struct Table {
 // A mask for each principal that a table may have.
 pub type Masks = [u32; Table::MOST];
 
+// (No invariant bounds n, since `table_good` answers for any; so what needs a bound requires it.)
 impl Table {
     // The most principals that a table may have.
     pub const MOST: usize = 32;

@@ -1,11 +1,10 @@
 // How many principals stand at or above an owner: ones are counted in their mask.
 ghost use Rattle.std.specs.Prelude.{◌≡◌, ◌+◌, ◌*◌, ◌^◌, ◌<◌, min};
-ghost use Rattle.lattice.specs.Order.{most_principals, mask};
+ghost use Rattle.lattice.specs.Order.{most_principals};
 ghost use Rattle.store.specs.Sheet.{n_of, order_of};
 ghost use Rattle.lines.specs.PrincipalsAbove.{one_if, mask_above, number_above};
 
 use lattice::Table;
-use store::Opened;
 
 // How many principals the sheet says that there are, in one byte: the cast loses nothing.
 pub(crate) fn said_principals(sheet: &[u8]) -> usize
@@ -22,14 +21,6 @@ fn principals_of(sheet: &[u8]) -> usize
     said_principals(sheet).min(Table::MOST)
 }
 
-// Mask p of the sheet's order table, in four bytes: the cast loses nothing.
-fn mask_at(sheet: &[u8], p: usize) -> u32
-    requires { p < min most_principals (n_of sheet.now) }
-    ensures { result ≡ mask (order_of sheet.now) p }
-{
-    store::number_at(sheet, Opened::SIZES + Opened::MASK * p, Opened::MASK) as u32
-}
-
 // A mask of p bits with one more, bit p.
 fn with_bit(m: u32, p: usize, set: bool) -> u32
     requires { (m < 2 ^ p) × (p < most_principals) }
@@ -44,7 +35,7 @@ fn mask_above(sheet: &[u8], owner: usize) -> u32
 {
     let mut above = 0;
     for p in 0..principals_of(sheet) {
-        let stands = lattice::has_bit(mask_at(sheet, p), owner);
+        let stands = lattice::has_bit(store::mask_at(sheet, p), owner);
         above = with_bit(above, p, stands);
     }
     above

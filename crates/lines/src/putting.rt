@@ -44,7 +44,7 @@ impl<'t> Writer<'t> {
         self.end += 1;
     }
 
-    // A number's digits: those before the last, and then the last.
+    // A number's digits: those before the last, and then the last. (By hand, as `decimal_within` says them; `DecimalText` holds of that.)
     fn put_digits(&mut self, places: usize, n: u64)
         requires { HasRoom self.old places }
         ensures { Written self.old (decimal_within places n) places self.new }

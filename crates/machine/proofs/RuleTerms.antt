@@ -2,6 +2,7 @@
 use Prim.Native.Nat.{ℕ, ◌-◌, ◌^◌, ◌<◌, min}
 use mathlib.Core.Path.{◌≡◌, refl, sym, ap, ◌∙◌}
 use mathlib.Core.Bool.{Bool, true, false}
+use mathlib.Core.List.{List}
 use native.Mathlib.Omega.{arith}
 use lib.ListN.{get_or}
 use Rattle.std.proofs.Common.{Some, None}
@@ -13,9 +14,10 @@ use Rattle.syntax.specs.declared.Header.{Header}
 use Rattle.calculus.specs.Rules.{rules_of, judges_views, judges_region}
 use Rattle.calculus.specs.Calculus.{Setting}
 use Rattle.machine.specs.declared.rules.Judges.{Judges}
-use Rattle.machine.specs.MachineNumbers.{judges_labels, judges_branch, floor_held, Serves}
+use Rattle.machine.specs.declared.rules.Terms.{Terms}
+use Rattle.machine.specs.MachineNumbers.{judges_labels, judges_branch, judging_of, floor_held, Serves}
 use Rattle.lattice.specs.HeldLabels.{LabelHeld, top_mask}
-use Rattle.machine.specs.BlockRuns.{judging_of, judges_of, Under}
+use Rattle.machine.specs.BlockRuns.{judges_of, Under}
 
 -- What the rule set of a rule number judges
 abbrev JudgesAs : Bool → Bool → Bool → Bool → ℕ → Type 0
@@ -66,9 +68,8 @@ top_held t h =
 pub serves_under : (w : Setting) (t : Table) (j : Judges) (h : Header) (region full floor : ℕ) → Under w t j h
     → floor ≡ floor_held h.endorsed h.floor → region ≡ get_or t.masks h.region 0 → full ≡ top_mask t.n
     → Serves w
-    (record { views = j.views; regions = j.regions; labels = j.labels; branches = j.branches; floor = floor; region = region; top = full })
+    (record { judges = j; floor = floor; region = region; top = full })
     t.masks
-unfolding judging_of
 serves_under w t j h region full floor u f p q =
     record {
       grounds = u.grounds;
@@ -76,11 +77,26 @@ serves_under w t j h region full floor u f p q =
       region = record { inside = rw (← u.header, u.order) u.region; same = rw (← u.header, u.order) p };
       top = rw (q, ← u.order) (top_held w.tables.order u.grounds.table);
       floor = f ∙ ap (λ (x : Header). floor_held x.endorsed x.floor) u.header;
-      views = ap (λ (x : Judges). x.views) u.judges;
-      regions = ap (λ (x : Judges). x.regions) u.judges;
-      labels = ap (λ (x : Judges). x.labels) u.judges;
-      branches = ap (λ (x : Judges). x.branches) u.judges;
+      judges = u.judges;
     }
+
+-- its terms judge what its rule set does
+module _ {w : Setting} {terms : Terms} {masks : List ℕ} (h : Serves w terms masks) where
+  pub serves_views : terms.judges.views ≡ judges_views w.rules
+  unfolding judging_of
+  serves_views = ap (λ (x : Judges). x.views) h.judges
+
+  pub serves_regions : terms.judges.regions ≡ judges_region w.rules
+  unfolding judging_of
+  serves_regions = ap (λ (x : Judges). x.regions) h.judges
+
+  pub serves_labels : terms.judges.labels ≡ judges_labels w.rules
+  unfolding judging_of
+  serves_labels = ap (λ (x : Judges). x.labels) h.judges
+
+  pub serves_branches : terms.judges.branches ≡ judges_branch w.rules
+  unfolding judging_of
+  serves_branches = ap (λ (x : Judges). x.branches) h.judges
 
 -- a region is a principal
 pub region_few : (w : Setting) (t : Table) (j : Judges) (h : Header) → Under w t j h → h.region < most_principals

@@ -25,6 +25,7 @@ use Rattle.lattice.specs.HeldLabels.{LabelHeld}
 use Rattle.machine.specs.MachineNumbers.{judges_labels, judges_branch, floor_held, Serves, ValueHeld, EvaluatedAs, JudgedAs, MadeAs}
 use Rattle.machine.specs.CompiledExpressions.{aimed}
 use Rattle.lattice.proofs.HeldLabels.{bit_held, bits_held}
+use Rattle.machine.proofs.RuleTerms.{serves_regions, serves_labels}
 use Rattle.machine.proofs.ViewAdmission.{in_region_law}
 use Rattle.machine.proofs.LiteralReads.{gave, refused}
 
@@ -76,9 +77,9 @@ module _ (t : Table) (r : RuleSet) (x y b : Label) (m n c : ℕ) (tx : LabelHeld
 module _ (w : Setting) (terms : Terms) (masks : List ℕ) (h : Serves w terms masks) where
   -- refusal 16: no label is judged; else by the owner, or by the floor
   module _ (i : ℕ) (x y b : Label) where
-    pub reliable_unjudged : terms.labels ≡ false → true ≡ reliable w i (labels_judged w.rules x y b)
+    pub reliable_unjudged : terms.judges.labels ≡ false → true ≡ reliable w i (labels_judged w.rules x y b)
     unfolding reliable
-    reliable_unjudged q = rw (labels_none x y b w.rules (sym h.labels ∙ q)) (sym (none_judged _ _ _))
+    reliable_unjudged q = rw (labels_none x y b w.rules (sym (serves_labels h) ∙ q)) (sym (none_judged _ _ _))
 
     -- j is the meet, as a mask
     module _ (o j : ℕ) (q : owner_of w.tables i ≡ o) (is : (z : Label) → bit j z ≡ all_above w.tables.order z (labels_judged w.rules x y b)) where
@@ -101,14 +102,14 @@ module _ (w : Setting) (terms : Terms) (masks : List ℕ) (h : Serves w terms ma
 
   -- refusal 14: the region is not judged, it is
   module _ (i : ℕ) where
-    pub region_unjudged : terms.regions ≡ false → authorised w i ≡ true
+    pub region_unjudged : terms.judges.regions ≡ false → authorised w i ≡ true
     unfolding authorised ◌implies◌
-    region_unjudged q = rw (sym h.regions ∙ q) refl
+    region_unjudged q = rw (sym (serves_regions h) ∙ q) refl
 
-    pub region_judged : (o : ℕ) (b : Bool) → terms.regions ≡ true → o ≡ owner_of w.tables i → b ≡ bit terms.region o
+    pub region_judged : (o : ℕ) (b : Bool) → terms.judges.regions ≡ true → o ≡ owner_of w.tables i → b ≡ bit terms.region o
         → authorised w i ≡ b
     unfolding authorised ◌implies◌
-    region_judged o b q u r = rw (sym h.regions ∙ q) (sym (in_region_law w terms masks h i o u) ∙ sym r)
+    region_judged o b q u r = rw (sym (serves_regions h) ∙ q) (sym (in_region_law w terms masks h i o u) ∙ sym r)
 
 -- an assignment whose target and value are known: the region lacks authority, the labels are too low, it is made
 module _ (w : Setting) (x y : Labelled) (b : Label) (i : ℕ) (q : x.value.payload ≡ i) where

@@ -16,6 +16,7 @@ use Rattle.calculus.specs.Calculus.{Setting, in_region, may_hold}
 use Rattle.machine.specs.declared.rules.Terms.{Terms}
 use Rattle.machine.specs.MachineNumbers.{Serves}
 use Rattle.machine.specs.MachineContracts.{Grounds, CanJudge, RowRead}
+use Rattle.machine.proofs.RuleTerms.{serves_views}
 use Rattle.machine.proofs.SlotRows.{row_owner}
 use Rattle.lattice.proofs.HeldLabels.{bit_held}
 use Rattle.machine.proofs.OwnerLabels.{owner_few}
@@ -38,9 +39,9 @@ no_view w v h = rw h (any_implies (judges_views w.rules) (in_region w (viewed v)
 
 module _ (w : Setting) (terms : Terms) (masks : List ℕ) (h : Serves w terms masks) where
   -- and anything where views are not judged
-  pub unjudged : (v : Value) → terms.views ≡ false → true ≡ may_hold w v
+  pub unjudged : (v : Value) → terms.judges.views ≡ false → true ≡ may_hold w v
   unfolding ◌and◌ ◌implies◌
-  unjudged v e = rw (sym h.views ∙ e) refl
+  unjudged v e = rw (sym (serves_views h) ∙ e) refl
 
   -- the test of an owner against the region's mask
   pub in_region_law : (i o : ℕ) → o ≡ owner_of w.tables i → bit terms.region o ≡ in_region w i
@@ -48,7 +49,7 @@ module _ (w : Setting) (terms : Terms) (masks : List ℕ) (h : Serves w terms ma
   in_region_law i o q = rw q (bit_held w.tables.order h.region (owner_of w.tables i))
 
   -- a write view is judged by its slot's owner
-  pub view_judged : (v : Value) (i o : ℕ) (b : Bool) → terms.views ≡ true → is_write_view v ≡ true → i ≡ viewed v → o ≡ owner_of w.tables i
+  pub view_judged : (v : Value) (i o : ℕ) (b : Bool) → terms.judges.views ≡ true → is_write_view v ≡ true → i ≡ viewed v → o ≡ owner_of w.tables i
       → b ≡ bit terms.region o → b ≡ may_hold w v
   unfolding ◌and◌ ◌implies◌
-  view_judged v i o b e k n q r = rw (sym h.views ∙ e, k, ← n) (r ∙ in_region_law i o q)
+  view_judged v i o b e k n q r = rw (sym (serves_views h) ∙ e, k, ← n) (r ∙ in_region_law i o q)

@@ -13,7 +13,7 @@ use Rattle.syntax.specs.declared.Header.{Header}
 use Rattle.syntax.specs.Sheet.{Block, k_of, code_at, header_at}
 use Rattle.syntax.specs.declared.Compiled.{Compiled}
 use Rattle.syntax.specs.Rows.{assign_kind, guard_kind}
-use Rattle.calculus.specs.Rules.{RuleSet, judges_views, judges_region}
+use Rattle.calculus.specs.Rules.{RuleSet}
 use Rattle.calculus.specs.Calculus.{Limits, Setting, State}
 use Rattle.calculus.specs.Blocks.{Halt, setting, run_blocks}
 use Rattle.pausing.specs.Paths.{Pause}
@@ -24,17 +24,13 @@ use Rattle.machine.specs.declared.blocks.Played.{Played as HeldPlayed}
 use Rattle.machine.specs.declared.blocks.Place.{Place}
 use Rattle.machine.specs.declared.blocks.Finished.{Finished}
 use Rattle.machine.specs.declared.blocks.Halted.{Halted}
-use Rattle.machine.specs.MachineNumbers.{judges_labels, judges_branch, Serves, StoreHeld, FewCounts}
+use Rattle.machine.specs.MachineNumbers.{judging_of, Serves, StoreHeld, FewCounts}
 use Rattle.pausing.specs.RowPaths.{path_to}
 use Rattle.machine.specs.CompiledRuns.{kind_at, InSpan, span_of, rows_before, BlocksAt}
 use Rattle.pausing.specs.RowPaths.{LabelsHeld}
 use Rattle.machine.specs.Machine.{GoesOn, place}
 
--- what a rule set judges
-unfoldable pub judging_of : RuleSet → Judges
-judging_of r = record { views = judges_views r; regions = judges_region r; labels = judges_labels r; branches = judges_branch r }
-
--- nothing where there is none
+-- what the rule set judges, nothing where there is none
 unfoldable pub judges_of : Result ℕ RuleSet → Option Judges
 judges_of (ok r) = Some (judging_of r)
 judges_of (refuse e) = None

@@ -12,6 +12,7 @@ use Rattle.calculus.specs.Rules.{RuleSet, access_control, capability, explicit_p
 use Rattle.calculus.specs.Calculus.{Setting, Store, State, stop_at, contents, Labelled, Judged, Write}
 use Rattle.pausing.specs.Paths.{Open, Pause, pause_at}
 use Rattle.machine.specs.Answers.{Got, Judging, Making}
+use Rattle.machine.specs.declared.rules.Judges.{Judges}
 use Rattle.machine.specs.declared.rules.Terms.{Terms}
 
 -- whether a rule set judges the labels of target and value, and that of the branch
@@ -27,6 +28,10 @@ judges_branch capability = false
 judges_branch explicit_provenance = false
 judges_branch full_provenance = true
 
+-- what a rule set judges
+unfoldable pub judging_of : RuleSet → Judges
+judging_of r = record { views = judges_views r; regions = judges_region r; labels = judges_labels r; branches = judges_branch r }
+
 -- a floor: that of an endorsed block; of any other a number that is no principal's, and so stands at or below no label
 unfoldable pub floor_held : Bool → ℕ → ℕ
 floor_held true f = f
@@ -39,10 +44,7 @@ pub record Serves (w : Setting) (t : Terms) (held : List ℕ) : Type 0 where
   pub region : LabelHeld w.tables.order w.header.region t.region
   pub top : LabelHeld w.tables.order (top w.tables.order) t.top
   pub floor : t.floor ≡ floor_held w.header.endorsed w.header.floor
-  pub views : t.views ≡ judges_views w.rules
-  pub regions : t.regions ≡ judges_region w.rules
-  pub labels : t.labels ≡ judges_labels w.rules
-  pub branches : t.branches ≡ judges_branch w.rules
+  pub judges : t.judges ≡ judging_of w.rules
 
 -- a store is held as rows; its views name slots that are held
 pub record StoreHeld (w : Tables) (s : Store) (rows : List HeldSlot) : Type 0 where

@@ -29,6 +29,7 @@ pub(crate) fn read_through(tables: &Compiled, by: Grounds, o: usize) -> Result<L
     let mut payload = operand.payload;
     let mut label = by.terms.top;
     let mut left = operand.reads % Operand::MORE;
+    // (No `for` over the reads: what turns up is judged once more than it is read through.)
     loop {
         if !slots::admitted(by, kind, payload) {
             return Err(Refusal::WriteViewNotAllowed);
@@ -105,6 +106,7 @@ fn fold(tables: &Compiled, by: Grounds, from: usize, first: Labelled) -> Result<
     let mut waiting = 0;
     let mut last = first;
     let mut o = from;
+    // (No `for`: the operand that ends the expression is told by its own mark. And an array with a count, as there is no heap.)
     loop {
         let operand = tables.operands[o];
         if operand.kind < Value::KINDS {

@@ -148,6 +148,7 @@ pub fn go(by: Given, labels: &mut Labels, held: &mut Held, from: Place) -> Resul
         (place_of from labels.old held.old) labels.new held.new result }
 {
     let mut at = from;
+    // (No `for`: which row is next, and whether one is, stands in the tables.)
     loop {
         let row = &by.tables.rows[at.row];
         let next = match row {

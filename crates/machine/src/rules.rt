@@ -8,9 +8,9 @@ ghost use Rattle.machine.specs.BlockRuns.{judges_of, Served};
 use lattice::Table;
 use syntax::Header;
 
-// What a block runs under: what its rule set judges, its endorsement, its region's and the top's masks.
+// What a rule set judges.
 #[derive(Clone, Copy)]
-pub struct Terms {
+pub struct Judges {
     // Write views, wherever they turn up (rule 1).
     pub views: bool,
     // The region, at each assignment (rules 0, 2 and 3).
@@ -19,6 +19,12 @@ pub struct Terms {
     pub labels: bool,
     // The branch's label too (rule 3).
     pub branches: bool,
+}
+
+// What a block runs under: what its rule set judges, its endorsement, its region's and the top's masks.
+#[derive(Clone, Copy)]
+pub struct Terms {
+    pub judges: Judges,
     // The floor of an endorsed block; of any other a number that is no principal's.
     pub floor: u8,
     pub region: u32,
@@ -26,19 +32,11 @@ pub struct Terms {
 }
 
 impl Terms {
-    // Stands at or below no label.
+    // Stands at or below no label. (No Option: an endorsement held beside the floor made nested ifs an eighth slower.)
     pub const NO_FLOOR: u8 = Table::MOST as u8;
 }
 
-// What a rule set judges.
-#[derive(Clone, Copy)]
-pub struct Judges {
-    pub views: bool,
-    pub regions: bool,
-    pub labels: bool,
-    pub branches: bool,
-}
-
+// The numbers of the rule sets are the callers': C gives one (include/muntyzhap.h), and document 01 asks for associated constants.
 impl Judges {
     pub const ACCESS_CONTROL: u32 = 0;
 
@@ -54,7 +52,7 @@ impl Judges {
 }
 
 // What the rule set of a rule number judges, where there is one.
-#[tactic(auto, unfolding(crate::specs::BlockRuns::judges_of, crate::specs::BlockRuns::judging_of, crate::specs::MachineNumbers::judges_labels, crate::specs::MachineNumbers::judges_branch, calculus::specs::Rules::rules_of, calculus::specs::Rules::judges_views, calculus::specs::Rules::judges_region))]
+#[tactic(auto, unfolding(crate::specs::BlockRuns::judges_of, crate::specs::MachineNumbers::judging_of, crate::specs::MachineNumbers::judges_labels, crate::specs::MachineNumbers::judges_branch, calculus::specs::Rules::rules_of, calculus::specs::Rules::judges_views, calculus::specs::Rules::judges_region))]
 pub fn judges_of(rule: u32) -> Option<Judges>
     ensures { result ≡ judges_of (rules_of rule) }
 {
@@ -101,10 +99,7 @@ pub(crate) fn terms_of(table: &Table, judges: Judges, header: Header) -> Terms
     ensures { Served table.now judges header result }
 {
     Terms {
-        views: judges.views,
-        regions: judges.regions,
-        labels: judges.labels,
-        branches: judges.branches,
+        judges,
         floor: floor_of(header.endorsed, header.floor),
         region: table.masks[header.region],
         top: lattice::top_mask(table.n),

@@ -30,14 +30,12 @@ pub(crate) fn admitted(by: Grounds, kind: u64, payload: u64) -> bool
     requires { CanJudge (grounds_of by) × (kind ≡ write_view → payload < most_slots) }
     ensures { Admits (grounds_of by.entry) kind payload result }
 {
-    if !by.terms.views {
-        return true;
-    }
-    if !store::is_write_view(kind) {
-        return true;
-    }
-    let row = row_of(by.held, store::viewed(payload));
-    lattice::has_bit(by.terms.region, row.owner as usize)
+    !by.terms.judges.views
+        || !store::is_write_view(kind)
+        || lattice::has_bit(
+            by.terms.region,
+            row_of(by.held, store::viewed(payload)).owner as usize,
+        )
 }
 
 // Puts what an assignment writes into its slot, and counts the write.
@@ -46,11 +44,10 @@ pub fn put(held: &mut Held, write: Write)
     ensures { PutsWrite held.old held.new write.slot write.kind write.payload write.owner }
 {
     let i = write.slot as usize;
-    let writes = held[i].writes;
     held[i] = HeldSlot {
         kind: write.kind,
         payload: write.payload,
         owner: write.owner,
-        writes: writes + 1,
+        writes: held[i].writes + 1,
     };
 }

@@ -13,7 +13,7 @@ use syntax::Compiled;
 use values::Refusal;
 
 // Who uses a value. `FOR` gives each an instance of `eval`, `aim`, `permit` and `assign` to itself, which is called in one place and so put in line.
-// Shared by both passes, an assignment takes twice as long; shared by guards and values, a guard three times.
+// Shared by both passes, an assignment takes twice as long; shared by guards and values, a guard three times. (Numbers, as a const parameter is an integer or a bool.)
 #[derive(Drop)]
 pub struct Use {}
 
@@ -68,14 +68,10 @@ fn meet_judged(branches: bool, target: u32, value: u32, branch: u32) -> u32
 fn reliable(terms: &Terms, owner: u64, target: u32, value: u32, branch: u32) -> bool
     ensures { Relies terms.now owner target value branch result }
 {
-    if !terms.labels {
-        return true;
-    }
-    let judged = meet_judged(terms.branches, target, value, branch);
-    if lattice::has_bit(judged, owner as usize) {
-        return true;
-    }
-    lattice::has_bit(judged, usize::from(terms.floor))
+    let judged = meet_judged(terms.judges.branches, target, value, branch);
+    !terms.judges.labels
+        || lattice::has_bit(judged, owner as usize)
+        || lattice::has_bit(judged, usize::from(terms.floor))
 }
 
 // Judges an assignment of a value to the slot that a target names: the region (14), then the labels (16).
@@ -90,10 +86,8 @@ fn permit<const FOR: u8>(
 {
     let slot = store::viewed(target.payload);
     let owner = slots::row_of(by.held, slot).owner;
-    if by.terms.regions {
-        if !lattice::has_bit(by.terms.region, owner as usize) {
-            return Err(Refusal::NoAuthority);
-        }
+    if by.terms.judges.regions && !lattice::has_bit(by.terms.region, owner as usize) {
+        return Err(Refusal::NoAuthority);
     }
     if !reliable(by.terms, owner, target.label, value.label, branch) {
         return Err(Refusal::ProvenanceTooLow);

@@ -111,7 +111,7 @@ fn span_all(code: &[u8], at: usize, n: usize) -> Extent
     Extent { end, rows }
 }
 
-// The rows of the block whose code stands in a programme sheet from `start` up to `end`.
+// The rows of the block whose code stands in a programme sheet from `start` up to `end`. (Both as numbers: what is known is said of the sheet.)
 pub fn rows_in(sheet: &[u8], start: usize, end: usize) -> usize
     requires { (start ≤ end) × (end ≤ length sheet.now) × SomeBlock (lent sheet.now start end) }
     ensures { (slots : ℕ) (c : Cmd) → read_block slots (lent sheet.now start end) ≡ ok c → result ≡ size c }

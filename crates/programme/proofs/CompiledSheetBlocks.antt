@@ -147,7 +147,7 @@ module _ {m : ℕ} {p : List ℕ} {k : ℕ} {t₀ : Compiled} {i start row opera
 
     -- it was refused, ..
     pub compiling_refused : (mid : Compiled) (f : reader.Fault) → Turned (block_read m code) (limit_of (length code) (spot_at 0 row operand)) t mid f
-        → CompilesTo p (blocks_from m p k 0) t₀ mid (Err (placed f.refusal i f.at 0))
+        → CompilesTo p (blocks_from m p k 0) t₀ mid (Err (placed f.refusal i f.spot.at 0))
     unfolding BlocksFilled check_answer said_at
     compiling_refused mid f y =
         let l = code_length in
@@ -155,7 +155,7 @@ module _ {m : ℕ} {p : List ℕ} {k : ℕ} {t₀ : Compiled} {i start row opera
         let b = s.below in
         let g = s.good.blocks in
         let z = from_refused m p (k - i) i (fault_of f) (omega arith) (rw (part_is s) at (block_refused m code (fault_of f) y.is)) in
-        leaves_all m p k t₀ mid (Err (placed f.refusal i f.at 0)) (w.rest (Err (placed f.refusal i f.at 0)) mid
+        leaves_all m p k t₀ mid (Err (placed f.refusal i f.spot.at 0)) (w.rest (Err (placed f.refusal i f.spot.at 0)) mid
         (rw z record { same = refl; filled = kept_later _ _ (omega (arith, w.rows)) (omega (arith, w.operands)) y.kept }))
 
     -- .. or read.

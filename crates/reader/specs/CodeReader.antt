@@ -20,7 +20,7 @@ use Rattle.syntax.specs.Sheet.{most_code}
 
 -- the refusal, as the definitions say it
 abbrev pub fault_of : Fault → code.Fault
-fault_of f = record { number = number f.refusal; offset = f.at }
+fault_of f = record { number = number f.refusal; offset = f.spot.at }
 
 -- the byte at `at`, or that the code ends before it
 abbrev pub ByteAt : List ℕ → ℕ → std.Result ℕ Fault → Type 0

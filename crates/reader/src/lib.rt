@@ -22,11 +22,12 @@ pub struct Spot {
     pub operand: usize,
 }
 
-// Why code is refused, and at which byte of the block's code.
+// Why code is refused, and where: of the spot only the byte counts. (A whole spot, so that the refusal stands past it: over one of its words, each spot
+// that is read would be passed on in pieces, and checking takes a sixth longer.)
 #[derive(Clone, Copy, Debug, PartialEq, Eq)]
 pub struct Fault {
+    pub spot: Spot,
     pub refusal: Refusal,
-    pub at: usize,
 }
 
 impl Fault {
@@ -36,8 +37,12 @@ impl Fault {
         ensures { fault_of result ≡ ill_formed at }
     {
         Fault {
+            spot: Spot {
+                at,
+                row: 0,
+                operand: 0,
+            },
             refusal: Refusal::IllFormedCode,
-            at,
         }
     }
 
@@ -47,8 +52,12 @@ impl Fault {
         ensures { fault_of result ≡ too_deep at }
     {
         Fault {
+            spot: Spot {
+                at,
+                row: 0,
+                operand: 0,
+            },
             refusal: Refusal::NestedTooDeep,
-            at,
         }
     }
 }
@@ -63,7 +72,7 @@ fn byte_at(code: &[u8], at: usize) -> Result<u8, Fault>
     }
 }
 
-// First bytes.
+// First bytes. (Constants, as the format has them: `reader` and `paths` match on them where they stand.)
 impl Spot {
     pub const LITERAL: u8 = 0x10;
 

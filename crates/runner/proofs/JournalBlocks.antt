@@ -95,17 +95,7 @@ module _ (g : Replayed) (f : Finishing g) where
 
   -- terms that serve a block, whatever it is
   abbrev some_terms : Header → Terms
-  some_terms h =
-      let j = g.by.judges in
-      record {
-        views = j.views;
-        regions = j.regions;
-        labels = j.labels;
-        branches = j.branches;
-        floor = floor_held h.endorsed h.floor;
-        region = get_or g.by.order.masks h.region 0;
-        top = full;
-      }
+  some_terms h = record { judges = g.by.judges; floor = floor_held h.endorsed h.floor; region = get_or g.by.order.masks h.region 0; top = full }
 
   serve : (h : Header) → Served g.by.order g.by.judges h (some_terms h)
   serve h w u = serves_under w g.by.order g.by.judges h _ _ _ u refl refl refl

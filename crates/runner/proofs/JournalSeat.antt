@@ -70,7 +70,7 @@ module _ {g : Replayed} {labels : List ℕ} {store : List HeldSlot} {place' : Fr
           seat_more = enter_some g s.run From' store' y es left.0 left.1
 
           pub seat_next : (labels'' : List ℕ) → labels'' ≡ everywhere (full g s.run)
-              → Seat g (seated labels'' store' (record { block = place'.block + 1; row = e.row + 1; steps = e.steps; free = 0 })) (y ∷ es)
+              → Seat g (seated labels'' store' (record { block = place'.block + 1; row = e.row + 1; steps = e.steps; free = place'.free })) (y ∷ es)
           seat_next labels'' o = rw o (record { run = s.run; inside = entered g s.run From' store' y es left.0 left.1 })
 
       -- an assignment came, for which no entry was free: it is made
@@ -95,7 +95,7 @@ module _ {g : Replayed} {labels : List ℕ} {store : List HeldSlot} {place' : Fr
           made : (z ≡ y) × Inside g s.run labels' store'' es place'.block (e.row + 1) (e.steps + 1)
           made = made_next s.inside terms served labels' store' (number e.refusal) e.row e.steps stopped.0 stopped.1 y es q store'' z m
 
-          pub seat_made : (z ≡ y) × Left g (seated labels' store'' (record { block = place'.block; row = e.row + 1; steps = e.steps + 1; free = 0 })) es
+          pub seat_made : (z ≡ y) × Left g (seated labels' store'' (record { block = place'.block; row = e.row + 1; steps = e.steps + 1; free = place'.free })) es
           seat_made = (made.0, seat_left es (record { run = s.run; inside = made.1 }))
 
 -- the loop over the blocks: from here comes the same write next

@@ -1,10 +1,9 @@
--- Where a block's code lies in its programme sheet, and which row is its first. Serves `locate` and `write_pause`. Assumes nothing.
-use Prim.Native.Nat.{ℕ, zero, suc, ◌+◌, ◌-◌, ◌≤◌, ◌<◌}
+-- Where a block's code lies in its programme sheet, and which row is its first. Serves `locate`. Assumes nothing.
+use Prim.Native.Nat.{ℕ, zero, suc, ◌+◌, ◌≤◌, ◌<◌}
 use mathlib.Core.Path.{◌≡◌, refl, ap, ◌∙◌}
 use mathlib.Core.List.{List, ◌∷◌}
 use native.Mathlib.Omega.{arith}
 use lib.ListN.{length, drop}
-use Rattle.lattice.specs.declared.Table.{Table}
 use Rattle.values.specs.Result.{ok}
 use Rattle.syntax.specs.Syntax.{Cmd}
 use Rattle.syntax.specs.Code.{read_block}
@@ -13,11 +12,9 @@ use Rattle.syntax.specs.RunningStarts.{RunningStart}
 use Rattle.syntax.specs.RunningStarts.{GoodLengths, Stands}
 use Rattle.syntax.specs.Rows.{size}
 use Rattle.syntax.proofs.RunningStarts.{running_first, stands_next, end_small, part_within, part_is, part_length}
-use Rattle.runner.specs.declared.stretches.Located.{Located}
 use Rattle.paths.specs.CodeLayout.{SomeBlock}
 use Rattle.machine.specs.CompiledRuns.{rows_before}
-use Rattle.paths.specs.Checkpoint.{CanPause, Pauses}
-use Rattle.runner.specs.StretchRun.{LiesAt, Locates, CanWritePause, WritesPause}
+use Rattle.runner.specs.StretchRun.{Locates}
 use Rattle.machine.proofs.BlockRuns.{before_next}
 use Rattle.runner.proofs.WholeRunFinish.{next_block}
 use Rattle.paths.proofs.CodeLayout.{lies_slim}
@@ -120,34 +117,3 @@ pub found_at : {p : List ℕ} {i start row : ℕ} → Passed p i start row → (
     → Locates p i (record { start = start; end = start + l; row = row })
 found_at w l e slots bs g reads h =
     record { code = next_is w g h l e; ordered = omega arith; within = next_within w g h l e; row = w.row_is slots bs reads }
-
--- The pause sheet of a run that is out of budget at a row of a block that was found.
-module _ (p : List ℕ) (t : Table) (held : List ℕ) (i row : ℕ) (r : Located) (w : Locates p i r) where
-  -- where it lies
-  pub lies_at : (sheet : List ℕ) (c : CanWritePause p t held i row sheet) → LiesAt p c.blocks i r
-  lies_at sheet c = w c.slots c.blocks c.at.lengths c.at.reads c.at.inside
-
-  -- the row is not before the block's first
-  pub row_from : (sheet : List ℕ) → CanWritePause p t held i row sheet → r.row ≤ row
-  row_from sheet c = omega (arith, (lies_at sheet c).row, c.at.from)
-
-  -- its code was read, and the row, counted from its first, takes a step
-  pub can_pause : (sheet : List ℕ) → CanWritePause p t held i row sheet → CanPause (lent p r.start r.end) t held sheet (row - r.row)
-  can_pause sheet c =
-      let x = lies_at sheet c in
-      record {
-        slots = c.slots;
-        command = c.block.command;
-        was_read = rw x.code c.at.listed;
-        table_good = c.table_good;
-        sheet_size = c.sheet_size;
-        labels = c.labels;
-        labels_held = c.at.labels_held;
-        steps = rw x.row c.at.steps;
-      }
-
-  -- the sheet of the block's code is that of the programme's block
-  pub writes_pause : (steps : ℕ) (sheet : List ℕ) → Pauses (lent p r.start r.end) t held (row - r.row) steps i sheet → WritesPause p t held i row steps sheet
-  writes_pause steps sheet f slots bs b l s a e =
-      let x = w slots bs a.lengths a.reads a.inside in
-      rw (← x.row) (f slots b.command l s (rw x.code a.listed) a.labels_held (rw x.row a.steps) e)

@@ -39,9 +39,9 @@ use Rattle.machine.specs.declared.blocks.Halted.{Halted as Halting}
 use Rattle.values.specs.Refusal.{number, placed, answer_in}
 use Rattle.values.specs.declared.refusal.Refused.{Refused}
 use Rattle.values.specs.declared.refusal.Refusal.TheVariants as r
-use Rattle.machine.specs.BlockRuns.{judging_of, EndedAs, finished, halted, PlaysOn}
+use Rattle.machine.specs.BlockRuns.{EndedAs, finished, halted, PlaysOn}
 use Rattle.lattice.specs.HeldLabels.{top_mask}
-use Rattle.machine.specs.MachineNumbers.{StoreHeld}
+use Rattle.machine.specs.MachineNumbers.{StoreHeld, judging_of}
 use Rattle.machine.specs.CompiledRuns.{rows_before}
 use Rattle.machine.specs.BlockRuns.{Played, HeadersAt, AllUnder, opening_place, LeftToPlay, Loaded, ToPlay, PausesAs, CanPlayOn}
 use Rattle.runner.specs.Journal.{replayed, opens, Finishing, Left}

@@ -30,7 +30,8 @@ use Rattle.calculus.specs.Run.{Call, call, run_programme, run_opened, run_under,
 use Rattle.machine.specs.declared.rules.Judges.{Judges}
 use Rattle.runner.specs.declared.journal.First.{First}
 use Rattle.runner.specs.declared.ready.Ready.{Ready}
-use Rattle.machine.specs.BlockRuns.{Played, played, judging_of, judges_of}
+use Rattle.machine.specs.MachineNumbers.{judging_of}
+use Rattle.machine.specs.BlockRuns.{Played, played, judges_of}
 use Rattle.runner.specs.Journal.{replayed, Ready as Ready', Filled}
 use Rattle.runner.specs.WholeRun.{answered, OpeningHeld, Readied, readied, Readies, Finishes, CanFinish, FirstPass, Passes, Runs}
 use Rattle.runner.proofs.WholeRunTables.{compiled_stands}

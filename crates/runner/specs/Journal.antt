@@ -27,7 +27,7 @@ pub record Replayed : Type 0 where
 abbrev pub replayed : List ℕ → Played → Replayed
 replayed sheet by = record { sheet = sheet; by = by }
 
--- Where it stands: the branch labels, the held store, and the place, at which no entry is free
+-- Where it stands: the branch labels, the held store, and the place
 pub record Seated : Type 0 where
   pub labels : List ℕ
   pub store : List HeldSlot

@@ -21,9 +21,9 @@ use Rattle.calculus.specs.Run.{Call, Finished, run_programme, answer, output, jo
 use Rattle.machine.specs.declared.rules.Judges.{Judges}
 use Rattle.runner.specs.declared.journal.First.{First}
 use Rattle.runner.specs.declared.ready.Ready.{Ready}
-use Rattle.machine.specs.MachineNumbers.{StoreHeld}
+use Rattle.machine.specs.MachineNumbers.{StoreHeld, judging_of}
 use Rattle.machine.specs.CompiledRuns.{BlocksAt}
-use Rattle.machine.specs.BlockRuns.{Played, judging_of}
+use Rattle.machine.specs.BlockRuns.{Played}
 use Rattle.runner.specs.Journal.{replayed, opens, Left}
 
 -- What a call answers, whose run finished or was refused

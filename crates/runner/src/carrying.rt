@@ -1,39 +1,49 @@
 // The calls of a run in stretches: from its start, and from a checkpoint.
-ghost use Rattle.std.specs.Prelude.{◌≤◌, length};
+ghost use Rattle.std.specs.Prelude.{◌≡◌, ◌*◌, ◌≤◌, eqb, length};
+ghost use Rattle.lattice.specs.Tests.{◌and◌};
+ghost use Rattle.values.specs.Value.{slot_width};
 ghost use Rattle.store.specs.Sheet.{most_slots};
-ghost use Rattle.pausing.specs.Stretches.{opening, checkpoint, stretch, run_stretch, ComesTo};
+ghost use Rattle.pausing.specs.Stretches.{pause_width, opening, checkpoint, stretch, run_stretch, ComesTo};
 ghost use Rattle.runner.specs.StretchRun.{from_of, AllFit, CanStand, Stands, EndsWith};
 
-use super::{answered, blocks_of, ready, stretches};
+use super::{answered, ready, stretches};
 use machine::blocks;
 use machine::blocks::{Place, Played};
 use machine::rules::Judges;
+use paths::trail::Checkpoint;
 use store::{Answer, Held, HeldSlot, Opened};
-use syntax::{Labels, Row};
+use syntax::{Compiled, Labels, Row};
 use values::{Refusal, Refused};
 
-// Where a stretch goes on from: the opening store; or an old output and its pause sheet, which are only read.
+// Where a stretch goes on from: the opening store; or an old output and its pause sheet, which are only read. (No Option: each case is one of the two
+// calls, as `From` of the definitions says.)
 #[derive(Clone, Copy)]
 pub(crate) enum Origin<'a> {
     Opening,
     Checkpoint { output: &'a [u8], sheet: &'a [u8] },
 }
 
-// The same of all that is lent to a stretch.
+// Whether a buffer has room for just so many slots, and another for a pause sheet.
+fn fitting(out: usize, pause: usize, slots: usize) -> bool
+    requires { slots ≤ most_slots }
+    ensures { result ≡ eqb out (slot_width * slots) and eqb pause pause_width }
+{
+    out == Opened::SLOT_WIDTH * slots && pause == Checkpoint::WIDTH
+}
+
+// Whether all that is lent to a stretch has its length (12): the buffers to write, and what it goes on from.
 fn all_fit(from: Origin, slots: usize, out: usize, pause: usize) -> bool
     requires { slots ≤ most_slots }
     ensures { AllFit slots (from_of from.entry) out pause result }
 {
-    let fit = stretches::fitting(out, pause, slots);
+    let fit = fitting(out, pause, slots);
     match from {
         Origin::Opening => fit,
-        Origin::Checkpoint { output, sheet } => {
-            fit && stretches::fitting(output.len(), sheet.len(), slots)
-        }
+        Origin::Checkpoint { output, sheet } => { fit && fitting(output.len(), sheet.len(), slots) }
     }
 }
 
-// Where it stands then: at the first block's first row, or where its checkpoint leaves it (19).
+// Where a stretch stands when its store is opened: at the first block's first row, or where its checkpoint leaves it (19).
 fn stand(
     programme: &[u8],
     opened: Opened,
@@ -67,7 +77,7 @@ fn stretch(
     ensures { EndsWith (run_stretch (from_of from.entry) (stretch store.now programme.now rule budget (length out.old) (length pause.old)))
         out.old pause.old out.new pause.new result }
 {
-    let mut compiled = ready::blank();
+    let mut compiled = Compiled::blank();
     let mut held = [HeldSlot::EMPTY; Opened::MOST_SLOTS];
     let ready = ready::prepare(store, programme, rule, budget, &mut compiled, &mut held)?;
     let opened = ready.opened;
@@ -84,7 +94,7 @@ fn stretch(
     };
     let end = blocks::play_blocks(
         programme,
-        blocks_of(programme),
+        programme::blocks_of(programme),
         by,
         &mut labels,
         &mut held,

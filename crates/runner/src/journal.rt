@@ -82,6 +82,7 @@ fn next_write(
     requires { Going (replayed programme.now (played_of by)) (seated labels.old held.old place.old) }
     ensures { Wrote (replayed programme.now (played_of by.entry)) (seated labels.old held.old place.old) (seated labels.new held.new place.new) result }
 {
+    // (No `for`: a block's run goes on until an assignment is due, or its end.)
     loop {
         let block = place.block;
         let terms = blocks::block_terms(programme, by.order, by.judges, block);
@@ -99,21 +100,14 @@ fn next_write(
         match rows::go(given, labels, held, from) {
             Ok(end) => {
                 *labels = [lattice::top_mask(by.order.n); Row::DEPTHS];
-                *place = Place {
-                    block: block + 1,
-                    row: end.row + 1,
-                    steps: end.steps,
-                    free: 0,
-                };
+                place.block += 1;
+                place.row = end.row + 1;
+                place.steps = end.steps;
             }
             // No entry is free for the assignment at this row.
             Err(stop) => {
-                *place = Place {
-                    block,
-                    row: stop.row + 1,
-                    steps: stop.steps + 1,
-                    free: 0,
-                };
+                place.row = stop.row + 1;
+                place.steps = stop.steps + 1;
                 return make_write(given, labels, held, block, stop);
             }
         }

@@ -12,7 +12,7 @@ use journal::First;
 use machine::blocks;
 use machine::blocks::Played;
 use store::{Answer, Entry, Held, HeldSlot, Opened};
-use syntax::Row;
+use syntax::{Compiled, Row};
 use values::{Refusal, Refused};
 
 mod carrying;
@@ -24,20 +24,13 @@ mod stretches;
 pub use carrying::{carry_on, start};
 pub use paths::trail::Checkpoint;
 
-// How many blocks a programme has.
-fn blocks_of(programme: &[u8]) -> usize
-    ensures { result ≡ k_of programme.now }
-{
-    store::number_at(programme, 0, 1) as usize
-}
-
 // What a run that finished answers.
 fn finishing(programme: &[u8], steps: u32) -> Answer
     ensures { result ≡ says 0 (k_of programme.now) 0 steps }
 {
     Answer {
         number: Answer::FINISHED,
-        block: blocks_of(programme),
+        block: programme::blocks_of(programme),
         offset: 0,
         steps,
     }
@@ -72,7 +65,7 @@ fn first_pass(
     }
     let mut work = *held;
     let mut labels = [lattice::top_mask(by.order.n); Row::DEPTHS];
-    let k = blocks_of(programme);
+    let k = programme::blocks_of(programme);
     let from = blocks::opening(entries);
     match blocks::play_blocks(programme, k, by, &mut labels, &mut work, from) {
         Ok(finished) => {
@@ -97,7 +90,7 @@ fn both_passes(
 ) -> Result<Answer, Refused>
     ensures { Runs (call store.now programme.now rule budget (length out.old) (length journal.old)) out.old journal.old out.new journal.new result }
 {
-    let mut compiled = ready::blank();
+    let mut compiled = Compiled::blank();
     let mut held = [HeldSlot::EMPTY; Opened::MOST_SLOTS];
     let ready = ready::prepare(store, programme, rule, budget, &mut compiled, &mut held)?;
     let by = Played {

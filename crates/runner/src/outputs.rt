@@ -31,12 +31,7 @@ fn row_in(out: &[u8], i: usize, owner: u64) -> HeldSlot
     ensures { result ≡ row_of (slot_in out.now i) owner }
 {
     let value = store::value_at(out, Opened::SLOT_WIDTH * i);
-    HeldSlot {
-        kind: u64::from(value.kind),
-        payload: value.payload,
-        owner,
-        writes: store::count_at(out, i),
-    }
+    HeldSlot::of(value, owner, store::count_at(out, i))
 }
 
 // Puts the values and the counts of an output into its slots as they are held, which keep their owners.

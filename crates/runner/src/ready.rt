@@ -5,23 +5,8 @@ ghost use Rattle.runner.specs.WholeRun.{Readies};
 use machine::rules;
 use machine::rules::Judges;
 use store::{Held, Opened};
-use syntax::{Compiled, Operand, Row};
+use syntax::Compiled;
 use values::{Refusal, Refused};
-
-// The tables before a programme is compiled into them. (In a function, so that they are filled where they stay.)
-pub(crate) fn blank() -> Compiled
-    ensures { Roomy result }
-{
-    let none = Operand {
-        kind: 0,
-        reads: 0,
-        payload: 0,
-    };
-    Compiled {
-        rows: [Row::End; Row::MOST],
-        operands: [none; Operand::MOST],
-    }
-}
 
 // A run that may begin: the store that was opened, and what its rule set judges.
 #[derive(Clone, Copy)]

@@ -1,12 +1,7 @@
 // Runs in stretches: one that is out of budget is paused, and carried on later from its output and its pause sheet.
-ghost use Rattle.std.specs.Prelude.{◌≡◌, ◌*◌, ◌≤◌, eqb};
-ghost use Rattle.lattice.specs.Tests.{◌and◌};
-ghost use Rattle.values.specs.Value.{slot_width};
-ghost use Rattle.store.specs.Sheet.{most_slots};
-ghost use Rattle.pausing.specs.Stretches.{pause_width};
 ghost use Rattle.runner.specs.StretchRun.{CanLocate, Locates, CanWritePause, WritesPause, CanSettle, Settles, CanTakeUp, TakesUp};
 
-use super::{blocks_of, finishing, outputs};
+use super::{finishing, outputs};
 use lattice::Table;
 use machine::blocks::{Finished, Halted, Place};
 use machine::rules::Judges;
@@ -25,19 +20,19 @@ pub struct Located {
 }
 
 // Finds a block: the lengths of those before it are added up, and so are their rows, each with its end row.
-fn locate(programme: &[u8], block: usize) -> Located
+fn locate(programme: &[u8], block: u8) -> Located
     requires { CanLocate programme.now block }
     ensures { Locates programme.now block result }
 {
-    let k = blocks_of(programme);
+    let k = programme::blocks_of(programme);
     let mut start = Sizes::WIDTH + Sizes::ENTRIES * k;
     let mut row = 0;
     for i in 0..block {
-        let end = start + programme::length_at(programme, i as u8);
+        let end = start + programme::length_at(programme, i);
         row += walking::rows_in(programme, start, end) + 1;
         start = end;
     }
-    let end = start + programme::length_at(programme, block as u8);
+    let end = start + programme::length_at(programme, block);
     Located { start, end, row }
 }
 
@@ -46,7 +41,7 @@ fn write_pause(programme: &[u8], table: Table, labels: &Labels, halted: Halted, 
     requires { CanWritePause programme.now table labels.now halted.refused.block halted.row pause.old }
     ensures { WritesPause programme.now table labels.now halted.refused.block halted.row halted.refused.steps pause.new }
 {
-    let block = halted.refused.block;
+    let block = halted.refused.block as u8;
     let code = locate(programme, block);
     checkpoint::pause(
         &programme[code.start..code.end],
@@ -55,7 +50,7 @@ fn write_pause(programme: &[u8], table: Table, labels: &Labels, halted: Halted, 
         pause,
         halted.row - code.row,
         halted.refused.steps,
-        block as u8,
+        block,
     );
 }
 
@@ -99,27 +94,20 @@ pub(crate) fn take_up(
     requires { CanTakeUp opened programme.now old.now sheet.now labels.old held.old }
     ensures { TakesUp opened programme.now old.now sheet.now held.old labels.new held.new result }
 {
-    let k = blocks_of(programme);
-    let block = usize::from(sheet[Checkpoint::BLOCK]);
+    let block = sheet[Checkpoint::BLOCK];
     let steps = store::number_at(sheet, 0, Checkpoint::STEPS) as u32;
-    if k <= block || !outputs::output_good(old, opened.slots, steps) {
+    if programme::blocks_of(programme) <= usize::from(block)
+        || !outputs::output_good(old, opened.slots, steps)
+    {
         return None;
     }
     let Located { start, end, row } = locate(programme, block);
     let past = checkpoint::resume(&programme[start..end], sheet, opened.table, labels)?;
     outputs::open_output(old, opened.slots, held);
     Some(Place {
-        block,
+        block: usize::from(block),
         row: row + past,
         steps,
         free: Judges::MOST_BUDGET as usize,
     })
-}
-
-// Whether a buffer has room for just so many slots, and another for a pause sheet.
-pub(crate) fn fitting(out: usize, pause: usize, slots: usize) -> bool
-    requires { slots ≤ most_slots }
-    ensures { result ≡ eqb out (slot_width * slots) and eqb pause pause_width }
-{
-    out == Opened::SLOT_WIDTH * slots && pause == Checkpoint::WIDTH
 }

@@ -18,13 +18,7 @@ impl<'a> Sheet<'a> {
         requires { i < self.now.slots }
         ensures { result ≡ row_at self.now.bytes.now i }
     {
-        let value = self.value(i);
-        HeldSlot {
-            kind: u64::from(value.kind),
-            payload: value.payload,
-            owner: self.owner(i),
-            writes: 0,
-        }
+        HeldSlot::of(self.value(i), self.owner(i), 0)
     }
 }
 

@@ -1,6 +1,9 @@
 // The store sheet, the table sheet, and the store as the code holds it. Definitions in specs/, laws in proofs/.
 #![tactic(auto)]
 
+ghost use Rattle.std.specs.Prelude.{◌≡◌};
+ghost use Rattle.store.specs.HeldStore.{row_of};
+
 use lattice::Table;
 
 mod counts;
@@ -9,7 +12,7 @@ mod sheets;
 
 pub use counts::{count_at, counts_total};
 pub use held::{open_store, write_store};
-pub use sheets::{check_store, check_table};
+pub use sheets::{check_store, check_table, mask_at};
 
 // Of `values`, for the crates above.
 pub use values::{
@@ -56,6 +59,19 @@ impl HeldSlot {
         owner: 0,
         writes: 0,
     };
+
+    // A slot of this value and owner, written so often.
+    #[tactic(auto, unfolding(crate::specs::HeldStore::row_of))]
+    pub fn of(value: Value, owner: u64, writes: u64) -> HeldSlot
+        ensures { result ≡ row_of (record { value = value; writes = writes }) owner }
+    {
+        HeldSlot {
+            kind: u64::from(value.kind),
+            payload: value.payload,
+            owner,
+            writes,
+        }
+    }
 }
 
 // A store as the code holds it: one for each slot that there may be.

@@ -119,7 +119,7 @@ impl<'a> Sheet<'a> {
 }
 
 // Mask i of a sheet. (Of a slice that is an argument the proof knows that its entries are bytes; of one in a struct it does not.)
-fn mask_at(s: &[u8], i: usize) -> u32
+pub fn mask_at(s: &[u8], i: usize) -> u32
     requires { i < most_principals }
     ensures { result ≡ mask_at s.now i }
 {

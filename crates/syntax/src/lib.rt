@@ -1,6 +1,9 @@
 // The programme sheet and its code: what they say, and what they are compiled into. Definitions in specs/, laws in proofs/.
 #![tactic(auto)]
 
+ghost use Rattle.std.specs.Prelude.{◌≡◌, replicate};
+ghost use Rattle.syntax.specs.Rows.{most_rows, most_operands, end_row, no_operand, Roomy};
+
 use values::Value;
 
 // What a block's entries in the sheet's arrays say, besides its length.
@@ -8,7 +11,7 @@ use values::Value;
 pub struct Header {
     pub region: usize,
     pub endorsed: bool,
-    // 0 where the block is not endorsed.
+    // 0 where the block is not endorsed. (No Option: `header_of` in specs/Sheet.antt gives this 0, and the laws of ignored floors speak of it.)
     pub floor: u8,
 }
 
@@ -97,6 +100,12 @@ impl Operand {
     pub const MOST_NESTED: usize = 8;
     // So many values wait at most.
     pub const DEEPEST: usize = Operand::MOST_NESTED;
+    // Stands where no operand was put.
+    pub const NONE: Operand = Operand {
+        kind: 0,
+        reads: 0,
+        payload: 0,
+    };
 }
 
 // The tables that a programme is compiled into: instruction rows, and the operands of their expressions.
@@ -104,6 +113,20 @@ impl Operand {
 pub struct Compiled {
     pub rows: [Row; Row::MOST],
     pub operands: [Operand; Operand::MOST],
+}
+
+impl Compiled {
+    // The tables before anything is put into them. (In a function, so that they are filled where they stay.)
+    pub fn blank() -> Compiled
+        ensures rows { result.rows ≡ replicate most_rows end_row }
+        ensures operands { result.operands ≡ replicate most_operands no_operand }
+        ensures room { Roomy result }
+    {
+        Compiled {
+            rows: [Row::End; Row::MOST],
+            operands: [Operand::NONE; Operand::MOST],
+        }
+    }
 }
 
 // What rows are run with: a branch label for each depth, as its principal's mask.

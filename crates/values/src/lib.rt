@@ -56,7 +56,7 @@ impl Value {
     pub const LARGEST: u64 = Value::SIGN - 1 + Value::SIGN;
 }
 
-// An entry of the journal: which block wrote which slot, at which offset, what the slot held before and what it held then.
+// An entry of the journal: which block wrote which slot, at which offset, what the slot held before and what it held then. C reads it (include/muntyzhap.h).
 #[repr(C)]
 #[derive(Clone, Copy)]
 pub struct Entry {

@@ -300,7 +300,7 @@ fn head_of(s: &[u8; Head::WIDTH]) -> Result<Head, Fault>
     })
 }
 
-// Reads until the buffer is full, the input ends or a read fails: how many bytes it holds then. The loop counts them, since `read_exact` does not
+// Reads until the buffer is full, the input ends or a read fails: how many bytes it holds then. (`blockrun` passes a failed read on.) The loop counts them, since `read_exact` does not
 // say how many it read, and `read_to_end` needs a heap.
 fn read_full(input: &mut impl Read, buffer: &mut [u8]) -> usize
     ensures { result ≤ length buffer.new }

@@ -4,7 +4,7 @@ use native.Mathlib.Omega.{arith}
 use Rattle.lattice.specs.Order.{bit, below}
 use Rattle.store.specs.Sheet.{order_of}
 use Rattle.lines.specs.PrincipalsAbove.{mask_where, mask_above}
-use Rattle.lines.proofs.PrincipalsAbove.{mask_lt, mask_none, mask_step}
+use Rattle.lines.proofs.PrincipalsAbove.{mask_held, mask_lt, mask_none, mask_step}
 use Rattle.lines.proofs.above.mask_above.Goals as goal
 
 pub loop-p-init : goal.loop-p-init
@@ -19,7 +19,7 @@ pub loop-p-preserved : goal.loop-p-preserved
 loop-p-preserved c =
     let a = c.args in
     mask_step c.loop-p.p (λ q. below (order_of a.sheet.now) a.owner q) c.with_bit-above.ensures c.loop-p.invariant
-    (c.has_bit-stands.ensures ∙ ap (λ (m : ℕ). bit m a.owner) c.mask_at.ensures)
+    (c.has_bit-stands.ensures ∙ ap (λ (m : ℕ). bit m a.owner) (c.mask_at.ensures ∙ mask_held a.sheet.now c.loop-p.p (omega arith)))
 
 pub returns : goal.returns
 unfolding mask_above order_of

@@ -8,7 +8,7 @@ use Rattle.machine.proofs.SlotRows.{row_owner}
 use Rattle.machine.proofs.StepJudgements.{region_unjudged, region_judged, permit_14, permit_16, permit_writes}
 use Rattle.machine.proofs.steps.permit.Goals as goal
 use Rattle.machine.proofs.steps.permit.Given.{Over}
-use Rattle.machine.proofs.steps.permit.Goals.{Joined-by, else-by, then-by+else-not-has_bit}
+use Rattle.machine.proofs.steps.permit.Goals.{Joined-else-by, else-by-via-then-by+else-not-has_bit, else-by-via-else-by}
 
 pub row_of-owner-requires : goal.row_of-owner-requires
 row_of-owner-requires g c = omega (arith, c.viewed-slot.ensures 0, c.requires.1)
@@ -22,25 +22,25 @@ returns-then-not-has_bit g c w s x y b v q t l d =
     ∙ c.if-not-has_bit.true)
 
 -- past the first test the region has the authority
-allowed : (g : Over) (c : Joined-by g) (w : Setting) (s : Store)
+allowed : (g : Over) (c : Joined-else-by g) (w : Setting) (s : Store)
     → Behind (grounds_of c.args.by) w s
     → authorised w c.viewed-slot.result ≡ true
 allowed g c w s v =
-    (elim c.if-by.branch [
-      | then-by+else-not-has_bit k ↦ region_judged w _ _ v.serves _ _ _ k.if-by.true (row_owner _ _ _ (c.row_of-owner.ensures w.tables s v.held)) k.has_bit.ensures
+    (elim c.else-by.branch [
+      | else-by-via-then-by+else-not-has_bit k ↦ region_judged w _ _ v.serves _ _ _ k.if-by.true (row_owner _ _ _ (c.row_of-owner.ensures w.tables s v.held)) k.has_bit.ensures
           ∙ k.if-not-has_bit.false
-      | else-by k ↦ region_unjudged w _ _ v.serves _ k.if-by.false
+      | else-by-via-else-by k ↦ region_unjudged w _ _ v.serves _ k.if-by.false
     ])
 
 pub returns-then-not-reliable : goal.returns-then-not-reliable
 unfolding number
 returns-then-not-reliable g c w s x y b v q t l d =
     let o = row_owner _ _ _ (c.row_of-owner.ensures w.tables s v.held) in
-    permit_16 w x y b _ (q ∙ sym (c.viewed-slot.ensures 0)) (allowed g (goal.at.returns-then-not-reliable g c).Joined-by w s v)
+    permit_16 w x y b _ (q ∙ sym (c.viewed-slot.ensures 0)) (allowed g (goal.at.returns-then-not-reliable g c).Joined-else-by w s v)
     (sym (c.reliable.ensures w _ _ x.label y.label b v.serves (sym o) t l.label d) ∙ c.if-not-reliable.true)
 
 pub returns : goal.returns
 returns g c w s x y b v q t l d =
     let o = row_owner _ _ _ (c.row_of-owner.ensures w.tables s v.held) in
-    permit_writes w x y b _ (q ∙ sym (c.viewed-slot.ensures 0)) (omega (arith, c.viewed-slot.ensures 0, c.requires.1)) _ _ _ _ l (sym o) (allowed g (goal.at.returns g c).Joined-by w s v)
+    permit_writes w x y b _ (q ∙ sym (c.viewed-slot.ensures 0)) (omega (arith, c.viewed-slot.ensures 0, c.requires.1)) _ _ _ _ l (sym o) (allowed g (goal.at.returns g c).Joined-else-by w s v)
     (sym (c.reliable.ensures w _ _ x.label y.label b v.serves (sym o) t l.label d) ∙ c.if-not-reliable.false)

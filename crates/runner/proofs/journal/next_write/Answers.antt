@@ -8,9 +8,6 @@ use Rattle.runner.proofs.JournalSeat.{standing, left_of, seat_few, seat_tell, se
 use Rattle.runner.proofs.journal.next_write.Goals as goal
 use Rattle.runner.proofs.journal.next_write.Goals.{At-loop-end}
 
-pub loop-end-init : goal.loop-end-init
-loop-end-init c = record { so = λ x es l. l }
-
 -- a write is left, so the pass stands in a block
 own : (l : At-loop-end)
     → Seat (replayed l.args.programme.now (played_of l.args.by)) (seated l.loop-end.labels l.loop-end.held l.loop-end.place) (l.requires.first ∷ l.requires.rest)

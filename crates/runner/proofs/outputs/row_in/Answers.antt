@@ -5,4 +5,4 @@ use Rattle.runner.proofs.outputs.row_in.Goals as goal
 
 pub returns : goal.returns
 unfolding row_of slot_in value_at
-returns c = rw (c.from.ensures, c.value_at-value.ensures, c.count_at.ensures)
+returns c = rw (c.of.ensures, c.value_at-value.ensures, c.count_at.ensures)

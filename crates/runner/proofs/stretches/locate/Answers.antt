@@ -7,17 +7,8 @@ use Rattle.runner.proofs.StretchLocate.{Passed, passed_none, next_small, next_fi
 use Rattle.runner.proofs.stretches.locate.Goals as goal
 use Rattle.runner.proofs.stretches.locate.Goals.{After-length_at, After-length_at-2, After-rows_in}
 
-pub overflow_mul-start : goal.overflow_mul-start
-overflow_mul-start c = let p = c.requires in omega (arith, c.blocks_of-k.ensures, p.lengths.few)
-
-pub overflow_add-start : goal.overflow_add-start
-overflow_add-start c = let p = c.requires in omega (arith, c.blocks_of-k.ensures, p.lengths.few)
-
 pub loop-i-init : goal.loop-i-init
 loop-i-init c = passed_none _ c.blocks_of-k.result _ c.blocks_of-k.ensures refl
-
-pub overflow_cast-i : goal.overflow_cast-i
-overflow_cast-i c = let p = c.requires in omega (arith, p.lengths.few, p.inside)
 
 -- what is known of the block that is passed
 abbrev passed : (c : After-length_at)
@@ -59,9 +50,6 @@ loop-i-preserved c =
     let d = c in
     let p = pre (goal.at.loop-i-preserved c).After-length_at in
     passed_next (passed (goal.at.loop-i-preserved c).After-length_at) p.lengths (here (goal.at.loop-i-preserved c).After-length_at) _ d.length_at.ensures.0 _ c.rows_in.ensures p.slots p.blocks p.reads
-
-pub overflow_cast-block : goal.overflow_cast-block
-overflow_cast-block c = let p = c.requires in omega (arith, p.lengths.few, p.inside)
 
 -- all blocks before it were passed
 pre-last : (c : After-length_at-2) → CanLocate c.args.programme.now c.args.block

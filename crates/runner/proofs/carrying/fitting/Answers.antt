@@ -1,6 +1,6 @@
 use borrow.Author.Tests.{eq-eqb, ne_eqb}
 use Rattle.lattice.specs.Tests.{◌and◌}
-use Rattle.runner.proofs.stretches.fitting.Goals as goal
+use Rattle.runner.proofs.carrying.fitting.Goals as goal
 
 pub returns-then-out-slots : goal.returns-then-out-slots
 unfolding ◌and◌
