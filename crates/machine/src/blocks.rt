@@ -8,7 +8,7 @@ use super::rules::{Judges, Terms};
 use super::{rows, rules};
 use lattice::Table;
 use store::Held;
-use syntax::{Compiled, Labels, Row, Sizes};
+use syntax::{Compiled, Labels, Row};
 use values::Refused;
 
 // What blocks are played by: the compiled tables, the order table, what the rule set judges, and the budget.
@@ -60,10 +60,8 @@ pub fn block_terms(sheet: &[u8], table: &Table, judges: Judges, block: usize) ->
     requires { CanTell sheet.now block }
     ensures { Served table.now judges (header_at sheet.now block) result }
 {
-    let k = store::number_at(sheet, 0, 1) as usize;
-    let at = Sizes::WIDTH + block;
-    let header = programme::header_of(sheet[at], sheet[at + Sizes::FLOORS * k]);
-    rules::terms_of(table, judges, header)
+    let k = programme::blocks_of(sheet);
+    rules::terms_of(table, judges, programme::header_at(sheet, k, block))
 }
 
 // Plays the blocks from a place on, which may stand inside a block, under the branch labels in force there. Each block's first row follows the end

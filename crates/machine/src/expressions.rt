@@ -8,7 +8,7 @@ ghost use Rattle.machine.specs.MachineContracts.{grounds_of, CanJudge, SomeExpr,
 use super::slots;
 use super::slots::Grounds;
 use store::Value;
-use syntax::{Compiled, Operand};
+use syntax::Operand;
 use values::Refusal;
 
 // An expression's value, with its label as a mask.
@@ -17,39 +17,6 @@ pub struct Labelled {
     pub kind: u64,
     pub payload: u64,
     pub label: u32,
-}
-
-// The literal at operand o, from it outwards through its reads. What turns up is judged (15) before it is read through (13).
-pub(crate) fn read_through(tables: &Compiled, by: Grounds, o: usize) -> Result<Labelled, Refusal>
-    requires { CanJudge (grounds_of by) × SomeLiteral tables.now.operands o }
-    ensures { ReadsThrough (grounds_of by.entry) tables.now.operands o (got result) }
-{
-    let operand = tables.operands[o];
-    let mut kind = u64::from(operand.kind);
-    let mut payload = operand.payload;
-    let mut label = by.terms.top;
-    let mut left = operand.reads % Operand::MORE;
-    // (No `for` over the reads: what turns up is judged once more than it is read through.)
-    loop {
-        if !slots::admitted(by, kind, payload) {
-            return Err(Refusal::WriteViewNotAllowed);
-        }
-        if left == 0 {
-            return Ok(Labelled {
-                kind,
-                payload,
-                label,
-            });
-        }
-        if kind != u64::from(Value::READ_VIEW) {
-            return Err(Refusal::WrongKind);
-        }
-        let row = slots::row_of(by.held, store::viewed(payload));
-        kind = row.kind;
-        payload = row.payload;
-        label = label & by.masks[row.owner as usize];
-        left -= 1;
-    }
 }
 
 fn integer(payload: u64, label: u32) -> Labelled
@@ -97,89 +64,116 @@ fn operate(operation: u8, left: Labelled, right: Labelled) -> Result<Labelled, R
     }
 }
 
-// The rest of an expression, from operand `from` on, once a first value is known.
-fn fold(tables: &Compiled, by: Grounds, from: usize, first: Labelled) -> Result<Labelled, Refusal>
-    requires { CanFold (grounds_of by) tables.now.operands from first.kind first.payload first.label }
-    ensures { Folds (grounds_of by.entry) tables.now.operands from first.kind first.payload first.label (got result) }
-{
-    let mut stack = [first; Operand::DEEPEST];
-    let mut waiting = 0;
-    let mut last = first;
-    let mut o = from;
-    // (No `for`: the operand that ends the expression is told by its own mark. And an array with a count, as there is no heap.)
-    loop {
-        let operand = tables.operands[o];
-        if operand.kind < Value::KINDS {
-            let x = read_through(tables, by, o)?;
-            stack[waiting] = last;
-            waiting += 1;
-            last = x;
-        } else {
-            waiting -= 1;
-            let x = operate(operand.kind, stack[waiting], last)?;
-            match operand.reads {
-                0 => {
-                    return Ok(x);
-                }
-                Operand::MORE => {
-                    last = x;
-                }
-                // A read of an operation's result: no operation gives a view.
-                _ => {
-                    return Err(Refusal::WrongKind);
+impl Grounds<'_> {
+    // The literal at operand o, from it outwards through its reads. What turns up is judged (15) before it is read through (13).
+    pub(crate) fn read_through(self, o: usize) -> Result<Labelled, Refusal>
+        requires { CanJudge (grounds_of self) × SomeLiteral self.tables.now.operands o }
+        ensures { ReadsThrough (grounds_of self.entry) self.entry.tables.now.operands o (got result) }
+    {
+        let operand = self.tables.operands[o];
+        let mut kind = u64::from(operand.kind);
+        let mut payload = operand.payload;
+        let mut label = self.terms.top;
+        let mut left = operand.reads % Operand::MORE;
+        // (No `for` over the reads: what turns up is judged once more than it is read through.)
+        loop {
+            if !self.admitted(kind, payload) {
+                return Err(Refusal::WriteViewNotAllowed);
+            }
+            if left == 0 {
+                return Ok(Labelled {
+                    kind,
+                    payload,
+                    label,
+                });
+            }
+            if kind != u64::from(Value::READ_VIEW) {
+                return Err(Refusal::WrongKind);
+            }
+            let row = slots::row_of(self.held, store::viewed(payload));
+            kind = row.kind;
+            payload = row.payload;
+            label = label & self.masks[row.owner as usize];
+            left -= 1;
+        }
+    }
+
+    // The rest of an expression, from operand `from` on, once a first value is known.
+    fn fold(self, from: usize, first: Labelled) -> Result<Labelled, Refusal>
+        requires { CanFold (grounds_of self) self.tables.now.operands from first.kind first.payload first.label }
+        ensures { Folds (grounds_of self.entry) self.entry.tables.now.operands from first.kind first.payload first.label (got result) }
+    {
+        let mut stack = [first; Operand::DEEPEST];
+        let mut waiting = 0;
+        let mut last = first;
+        let mut o = from;
+        // (No `for`: the operand that ends the expression is told by its own mark. And an array with a count, as there is no heap.)
+        loop {
+            let operand = self.tables.operands[o];
+            if operand.kind < Value::KINDS {
+                let x = self.read_through(o)?;
+                stack[waiting] = last;
+                waiting += 1;
+                last = x;
+            } else {
+                waiting -= 1;
+                let x = operate(operand.kind, stack[waiting], last)?;
+                match operand.reads {
+                    0 => {
+                        return Ok(x);
+                    }
+                    Operand::MORE => {
+                        last = x;
+                    }
+                    // A read of an operation's result: no operation gives a view.
+                    _ => {
+                        return Err(Refusal::WrongKind);
+                    }
                 }
             }
+            o += 1;
         }
-        o += 1;
     }
-}
 
-// An expression with operations, from its first operand on.
-pub(crate) fn eval_operations(tables: &Compiled, by: Grounds, o: usize) -> Result<Labelled, Refusal>
-    requires { CanJudge (grounds_of by) × SomeOperation tables.now.operands o }
-    ensures { Evaluates (grounds_of by.entry) tables.now.operands o (got result) }
-{
-    let x = read_through(tables, by, o)?;
-    let third = tables.operands[o + 2];
-    // Neither reads nor MORE: the third operand is the expression's last, so an operation on the two before it.
-    if third.reads == 0 {
-        let y = read_through(tables, by, o + 1)?;
-        return operate(third.kind, x, y);
+    // An expression with operations, from its first operand on.
+    pub(crate) fn eval_operations(self, o: usize) -> Result<Labelled, Refusal>
+        requires { CanJudge (grounds_of self) × SomeOperation self.tables.now.operands o }
+        ensures { Evaluates (grounds_of self.entry) self.entry.tables.now.operands o (got result) }
+    {
+        let x = self.read_through(o)?;
+        let third = self.tables.operands[o + 2];
+        // Neither reads nor MORE: the third operand is the expression's last, so an operation on the two before it.
+        if third.reads == 0 {
+            let y = self.read_through(o + 1)?;
+            return operate(third.kind, x, y);
+        }
+        self.fold(o + 1, x)
     }
-    fold(tables, by, o + 1, x)
-}
 
-// A value: an expression, from its first operand on. (An instance for each user, `steps::Use`, is put in line, and `eval_operations` is not.)
-pub(crate) fn eval<const FOR: u8>(
-    tables: &Compiled,
-    by: Grounds,
-    o: usize,
-) -> Result<Labelled, Refusal>
-    requires { CanJudge (grounds_of by) × SomeExpr tables.now.operands o }
-    ensures { Evaluates (grounds_of by.entry) tables.now.operands o (got result) }
-{
-    if tables.operands[o].reads < Operand::MORE {
-        return read_through(tables, by, o);
+    // A value: an expression, from its first operand on. (An instance for each user, `steps::Use`, is put in line, and `eval_operations` is not.)
+    pub(crate) fn eval<const FOR: u8>(self, o: usize) -> Result<Labelled, Refusal>
+        requires { CanJudge (grounds_of self) × SomeExpr self.tables.now.operands o }
+        ensures { Evaluates (grounds_of self.entry) self.entry.tables.now.operands o (got result) }
+    {
+        if self.tables.operands[o].reads < Operand::MORE {
+            return self.read_through(o);
+        }
+        self.eval_operations(o)
     }
-    eval_operations(tables, by, o)
-}
 
-// An assignment's target: a write view. No operation gives a view.
-pub(crate) fn aim<const FOR: u8>(
-    tables: &Compiled,
-    by: Grounds,
-    o: usize,
-) -> Result<Labelled, Refusal>
-    requires { CanJudge (grounds_of by) × SomeExpr tables.now.operands o }
-    ensures { Aims (grounds_of by.entry) tables.now.operands o (got result) }
-{
-    if Operand::MORE <= tables.operands[o].reads {
-        eval_operations(tables, by, o)?;
-        return Err(Refusal::WrongKind);
+    // An assignment's target: a write view. No operation gives a view.
+    pub(crate) fn aim<const FOR: u8>(self, o: usize) -> Result<Labelled, Refusal>
+        requires { CanJudge (grounds_of self) × SomeExpr self.tables.now.operands o }
+        ensures { Aims (grounds_of self.entry) self.entry.tables.now.operands o (got result) }
+    {
+        if Operand::MORE <= self.tables.operands[o].reads {
+            self.eval_operations(o)?;
+            return Err(Refusal::WrongKind);
+        }
+        let x = self.read_through(o)?;
+        if !store::is_write_view(x.kind) {
+            return Err(Refusal::WrongKind);
+        }
+        Ok(x)
     }
-    let x = read_through(tables, by, o)?;
-    if !store::is_write_view(x.kind) {
-        return Err(Refusal::WrongKind);
-    }
-    Ok(x)
 }

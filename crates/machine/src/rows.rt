@@ -5,9 +5,9 @@ ghost use Rattle.machine.specs.Answers.{control};
 ghost use Rattle.machine.specs.Machine.{given_of, place_of, CanGo, IsAssign, IsGuard, Moved, Due, Went};
 
 use super::rules::Terms;
+use super::slots;
 use super::slots::Grounds;
 use super::steps::Use;
-use super::{slots, steps};
 use lattice::Masks;
 use store::Held;
 use syntax::{Compiled, Labels, Row};
@@ -69,14 +69,13 @@ fn take_assign(
         return Err(Refusal::JournalFull);
     }
     let judged = Grounds {
+        tables: by.tables,
         held,
         masks: by.masks,
         terms: by.terms,
     };
     let branch = labels[usize::from(depth)];
-    let write = steps::assign::<{ Use::FIRST_PASS }>(
-        by.tables,
-        judged,
+    let write = judged.assign::<{ Use::FIRST_PASS }>(
         usize::from(target),
         usize::from(value),
         branch,
@@ -106,11 +105,12 @@ fn take_guard(
 {
     due(at, by.budget)?;
     let judged = Grounds {
+        tables: by.tables,
         held,
         masks: by.masks,
         terms: by.terms,
     };
-    let guard = steps::judge(by.tables, judged, usize::from(operand))?;
+    let guard = judged.judge(usize::from(operand))?;
     let depth = usize::from(depth);
     labels[depth + 1] = labels[depth] & guard.label;
     if guard.passes {

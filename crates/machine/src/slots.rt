@@ -8,10 +8,12 @@ use super::rules::Terms;
 use super::steps::Write;
 use lattice::Masks;
 use store::{Held, HeldSlot};
+use syntax::Compiled;
 
-// What is judged by: the held store, the masks of the principals, and what the block runs under.
+// What is judged by: the compiled tables, the held store, the masks of the principals, and what the block runs under.
 #[derive(Clone, Copy)]
 pub struct Grounds<'a> {
+    pub tables: &'a Compiled,
     pub held: &'a Held,
     pub masks: &'a Masks,
     pub terms: &'a Terms,
@@ -25,17 +27,19 @@ pub fn row_of(held: &Held, slot: u64) -> HeldSlot
     held[slot as usize]
 }
 
-// Rule 1: whether the region may hold this value (15).
-pub(crate) fn admitted(by: Grounds, kind: u64, payload: u64) -> bool
-    requires { CanJudge (grounds_of by) × (kind ≡ write_view → payload < most_slots) }
-    ensures { Admits (grounds_of by.entry) kind payload result }
-{
-    !by.terms.judges.views
-        || !store::is_write_view(kind)
-        || lattice::has_bit(
-            by.terms.region,
-            row_of(by.held, store::viewed(payload)).owner as usize,
-        )
+impl Grounds<'_> {
+    // Rule 1: whether the region may hold this value (15).
+    pub(crate) fn admitted(self, kind: u64, payload: u64) -> bool
+        requires { CanJudge (grounds_of self) × (kind ≡ write_view → payload < most_slots) }
+        ensures { Admits (grounds_of self.entry) kind payload result }
+    {
+        !self.terms.judges.views
+            || !store::is_write_view(kind)
+            || lattice::has_bit(
+                self.terms.region,
+                row_of(self.held, store::viewed(payload)).owner as usize,
+            )
+    }
 }
 
 // Puts what an assignment writes into its slot, and counts the write.

@@ -6,10 +6,9 @@ ghost use Rattle.machine.specs.MachineContracts.{grounds_of, CanJudge, SomeExpr,
 
 use super::expressions::Labelled;
 use super::rules::Terms;
+use super::slots;
 use super::slots::Grounds;
-use super::{expressions, slots};
 use store::Value;
-use syntax::Compiled;
 use values::Refusal;
 
 // Who uses a value. `FOR` gives each an instance of `eval`, `aim`, `permit` and `assign` to itself, which is called in one place and so put in line.
@@ -41,21 +40,6 @@ pub struct Write {
     pub owner: u64,
 }
 
-// Judges the guard at operand o: the expression, then its kind.
-pub(crate) fn judge(tables: &Compiled, by: Grounds, o: usize) -> Result<Judged, Refusal>
-    requires { CanJudge (grounds_of by) × SomeExpr tables.now.operands o }
-    ensures { JudgesGuard (grounds_of by.entry) tables.now.operands o (judging result) }
-{
-    let x = expressions::eval::<{ Use::GUARD }>(tables, by, o)?;
-    if x.kind != u64::from(Value::TRUTH) {
-        return Err(Refusal::WrongKind);
-    }
-    Ok(Judged {
-        passes: x.payload == Value::TRUE,
-        label: x.label,
-    })
-}
-
 // The meet of the labels that are judged where any are: target and value, under rule 3 the branch too.
 fn meet_judged(branches: bool, target: u32, value: u32, branch: u32) -> u32
     ensures { MeetsJudged branches target value branch result }
@@ -74,44 +58,60 @@ fn reliable(terms: &Terms, owner: u64, target: u32, value: u32, branch: u32) -> 
         || lattice::has_bit(judged, usize::from(terms.floor))
 }
 
-// Judges an assignment of a value to the slot that a target names: the region (14), then the labels (16).
-fn permit<const FOR: u8>(
-    by: Grounds,
-    target: Labelled,
-    value: Labelled,
-    branch: u32,
-) -> Result<Write, Refusal>
-    requires { CanJudge (grounds_of by) × (target.payload < most_slots) }
-    ensures { Permits (grounds_of by.entry) target.payload target.label value.kind value.payload value.label branch (making result) }
-{
-    let slot = store::viewed(target.payload);
-    let owner = slots::row_of(by.held, slot).owner;
-    if by.terms.judges.regions && !lattice::has_bit(by.terms.region, owner as usize) {
-        return Err(Refusal::NoAuthority);
+impl Grounds<'_> {
+    // Judges the guard at operand o: the expression, then its kind.
+    pub(crate) fn judge(self, o: usize) -> Result<Judged, Refusal>
+        requires { CanJudge (grounds_of self) × SomeExpr self.tables.now.operands o }
+        ensures { JudgesGuard (grounds_of self.entry) self.entry.tables.now.operands o (judging result) }
+    {
+        let x = self.eval::<{ Use::GUARD }>(o)?;
+        if x.kind != u64::from(Value::TRUTH) {
+            return Err(Refusal::WrongKind);
+        }
+        Ok(Judged {
+            passes: x.payload == Value::TRUE,
+            label: x.label,
+        })
     }
-    if !reliable(by.terms, owner, target.label, value.label, branch) {
-        return Err(Refusal::ProvenanceTooLow);
-    }
-    Ok(Write {
-        slot,
-        kind: value.kind,
-        payload: value.payload,
-        owner,
-    })
-}
 
-// Judges an assignment by its operands: the target and its kind, the value, then 14 and 16.
-pub fn assign<const FOR: u8>(
-    tables: &Compiled,
-    by: Grounds,
-    target: usize,
-    value: usize,
-    branch: u32,
-) -> Result<Write, Refusal>
-    requires { CanJudge (grounds_of by) × SomeExpr tables.now.operands target × SomeExpr tables.now.operands value }
-    ensures { JudgesAssignment (grounds_of by.entry) tables.now.operands target value branch (making result) }
-{
-    let x = expressions::aim::<FOR>(tables, by, target)?;
-    let y = expressions::eval::<FOR>(tables, by, value)?;
-    permit::<FOR>(by, x, y, branch)
+    // Judges an assignment of a value to the slot that a target names: the region (14), then the labels (16).
+    fn permit<const FOR: u8>(
+        self,
+        target: Labelled,
+        value: Labelled,
+        branch: u32,
+    ) -> Result<Write, Refusal>
+        requires { CanJudge (grounds_of self) × (target.payload < most_slots) }
+        ensures { Permits (grounds_of self.entry) target.payload target.label value.kind value.payload value.label branch (making result) }
+    {
+        let slot = store::viewed(target.payload);
+        let owner = slots::row_of(self.held, slot).owner;
+        if self.terms.judges.regions && !lattice::has_bit(self.terms.region, owner as usize) {
+            return Err(Refusal::NoAuthority);
+        }
+        if !reliable(self.terms, owner, target.label, value.label, branch) {
+            return Err(Refusal::ProvenanceTooLow);
+        }
+        Ok(Write {
+            slot,
+            kind: value.kind,
+            payload: value.payload,
+            owner,
+        })
+    }
+
+    // Judges an assignment by its operands: the target and its kind, the value, then 14 and 16.
+    pub fn assign<const FOR: u8>(
+        self,
+        target: usize,
+        value: usize,
+        branch: u32,
+    ) -> Result<Write, Refusal>
+        requires { CanJudge (grounds_of self) × SomeExpr self.tables.now.operands target × SomeExpr self.tables.now.operands value }
+        ensures { JudgesAssignment (grounds_of self.entry) self.entry.tables.now.operands target value branch (making result) }
+    {
+        let x = self.aim::<FOR>(target)?;
+        let y = self.eval::<FOR>(value)?;
+        self.permit::<FOR>(x, y, branch)
+    }
 }

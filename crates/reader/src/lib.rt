@@ -66,10 +66,7 @@ impl Fault {
 fn byte_at(code: &[u8], at: usize) -> Result<u8, Fault>
     ensures { ByteAt code.now at result }
 {
-    match code.get(at) {
-        Some(b) => Ok(*b),
-        None => Err(Fault::ill_formed(code.len())),
-    }
+    code.get(at).copied().ok_or(Fault::ill_formed(code.len()))
 }
 
 // First bytes. (Constants, as the format has them: `reader` and `paths` match on them where they stand.)

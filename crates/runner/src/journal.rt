@@ -9,7 +9,7 @@ use machine::blocks::{Place, Played};
 use machine::rows::{Given, Stop};
 use machine::slots::Grounds;
 use machine::steps::Use;
-use machine::{blocks, rows, slots, steps};
+use machine::{blocks, rows, slots};
 use store::{Answer, Entry, Held, Value};
 use syntax::{Labels, Row};
 
@@ -47,19 +47,15 @@ fn make_write(by: Given, labels: &Labels, held: &mut Held, block: usize, stop: S
         unreachable!()
     };
     let judged = Grounds {
+        tables: by.tables,
         held,
         masks: by.masks,
         terms: by.terms,
     };
     let branch = labels[usize::from(*depth)];
-    let write = steps::assign::<{ Use::SECOND_PASS }>(
-        by.tables,
-        judged,
-        usize::from(*target),
-        usize::from(*value),
-        branch,
-    )
-    .unwrap();
+    let write = judged
+        .assign::<{ Use::SECOND_PASS }>(usize::from(*target), usize::from(*value), branch)
+        .unwrap();
     let old = slots::row_of(held, write.slot);
     slots::put(held, write);
     Entry {

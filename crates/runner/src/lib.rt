@@ -41,10 +41,7 @@ fn finishing(programme: &[u8], steps: u32) -> Answer
 fn answered(run: Result<Answer, Refused>) -> Answer
     ensures { result ≡ answered run }
 {
-    match run {
-        Ok(answer) => answer,
-        Err(refused) => Answer::from(refused),
-    }
+    run.unwrap_or_else(Answer::from)
 }
 
 // The first pass: the output's length (12), then the blocks, over a copy of the store. A refusal leaves the output as it was.

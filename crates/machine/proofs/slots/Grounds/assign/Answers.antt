@@ -3,7 +3,7 @@ use Rattle.machine.proofs.Exits.{exit}
 use Rattle.machine.proofs.SlotRows.{view_held}
 use Rattle.machine.proofs.LiteralReads.{gave}
 use Rattle.machine.proofs.StepJudgements.{aimed_view, assign_refused, assign_value_refused, assign_judged}
-use Rattle.machine.proofs.steps.assign.Goals as goal
+use Rattle.machine.proofs.slots.Grounds.assign.Goals as goal
 
 pub returns-in_err-x : goal.returns-in_err-x
 returns-in_err-x g c w s x y b v p q l = rw (exit _ c.from_residual.ensures.1) (assign_refused w s b x y (c.in_err-x.ensures w s x v p))

@@ -6,8 +6,8 @@ use Rattle.syntax.specs.Code.{most_nested}
 use Rattle.syntax.specs.Rows.{most_operands}
 use Rattle.machine.proofs.Exits.{exit}
 use Rattle.machine.proofs.FoldLoop.{can_read, turn_first, turn_inside, some_literal, some_room, turn_barred, turn_literal, some_wait, turn_refused, turn_read, turn_last, turn_operation}
-use Rattle.machine.proofs.expressions.fold.Goals as goal
-use Rattle.machine.proofs.expressions.fold.Goals.{At-loop-operand, In_ok-x, then-operand-lt-KINDS+in_ok-x, else-operand-lt-KINDS+in_ok-x-2+in-128}
+use Rattle.machine.proofs.slots.Grounds.fold.Goals as goal
+use Rattle.machine.proofs.slots.Grounds.fold.Goals.{At-loop-operand, In_ok-x, then-operand-lt-KINDS+in_ok-x, else-operand-lt-KINDS+in_ok-x-2+in-128}
 
 pub loop-operand-init : goal.loop-operand-init
 loop-operand-init c = turn_first refl
@@ -15,8 +15,8 @@ loop-operand-init c = turn_first refl
 within : (c : At-loop-operand) → c.loop-operand.o < most_operands
 within c = turn_inside c.loop-operand.invariant c.requires
 
-pub bounds-tables-o : goal.bounds-tables-o
-bounds-tables-o c = within (goal.at.bounds-tables-o c).At-loop-operand
+pub bounds-self-o : goal.bounds-self-o
+bounds-self-o c = within (goal.at.bounds-self-o c).At-loop-operand
 
 -- A literal comes
 pub read_through-requires : goal.read_through-requires

@@ -6,11 +6,11 @@ use Rattle.calculus.specs.Calculus.{Setting, Store, eval}
 use Rattle.machine.specs.CompiledExpressions.{LiteralAt, read_times}
 use Rattle.machine.specs.MachineContracts.{grounds_of, Behind}
 use Rattle.machine.proofs.LiteralReads.{Ready}
-use Rattle.machine.proofs.expressions.read_through.Given as goal
+use Rattle.machine.proofs.slots.Grounds.read_through.Given as goal
 
 abbrev pub invariant-loop-o : goal.invariant-loop-o
 invariant-loop-o l =
-    (w : Setting) (s : Store) (v : Value) (reads : ℕ) → Behind (grounds_of l.by) w s → LiteralAt l.tables.operands l.o v reads
+    (w : Setting) (s : Store) (v : Value) (reads : ℕ) → Behind (grounds_of l.self) w s → LiteralAt l.self.tables.now.operands l.o v reads
     → Ready w s l.kind l.payload l.label l.left (read_times w s (reads % more_come) (eval w s (literal v)))
 
 abbrev pub decreases-loop-o : goal.decreases-loop-o

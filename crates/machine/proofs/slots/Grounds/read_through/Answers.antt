@@ -10,8 +10,8 @@ use Rattle.machine.specs.CompiledExpressions.{read_times}
 use Rattle.machine.proofs.ViewAdmission.{owner_in}
 use Rattle.machine.proofs.SlotRows.{view_held}
 use Rattle.machine.proofs.LiteralReads.{Ready, ready_all, ready_barred, ready_done, ready_kind, ready_next}
-use Rattle.machine.proofs.expressions.read_through.Goals as goal
-use Rattle.machine.proofs.expressions.read_through.Goals.{At-loop-o}
+use Rattle.machine.proofs.slots.Grounds.read_through.Goals as goal
+use Rattle.machine.proofs.slots.Grounds.read_through.Goals.{At-loop-o}
 
 pub loop-o-init : goal.loop-o-init
 loop-o-init c w s v n h x = ready_all w s x _ _ _ _ c.from-kind.ensures refl refl h.serves.top
@@ -45,11 +45,11 @@ pub row_of-row-requires : goal.row_of-row-requires
 row_of-row-requires c =
     omega (arith, c.viewed.ensures 0, view_held (ready (goal.at.row_of-row-requires c).At-loop-o).held (inl (c.if-kind-from.false ∙ c.from.ensures)))
 
-pub offset_bounds-by-row : goal.offset_bounds-by-row
-offset_bounds-by-row c = omega (arith, owner_in _ _ c.requires.0 c.row_of-row.ensures)
+pub offset_bounds-self-row : goal.offset_bounds-self-row
+offset_bounds-self-row c = omega (arith, owner_in _ _ c.requires.0 c.row_of-row.ensures)
 
-pub bounds-by-row : goal.bounds-by-row
-bounds-by-row c = owner_in _ _ c.requires.0 c.row_of-row.ensures
+pub bounds-self-row : goal.bounds-self-row
+bounds-self-row c = owner_in _ _ c.requires.0 c.row_of-row.ensures
 
 pub loop-o-preserved : goal.loop-o-preserved
 loop-o-preserved c w s v n h x =
