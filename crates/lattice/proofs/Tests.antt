@@ -136,7 +136,14 @@ pub every_more : (n : ℕ) (f : ℕ → Bool) → every n f ≡ true → f n ≡
 unfolding every
 every_more n f p q = rw add-one (and_of (every n f) (f n) p q)
 
+pub some_more : (n : ℕ) (f : ℕ → Bool) → some n f ≡ false → f n ≡ false → some (n + 1) f ≡ false
+unfolding some ◌or◌
+some_more n f p q = rw (add-one, p, q) refl
+
 -- a loop's end
+pub some_done : (n k : ℕ) (f : ℕ → Bool) → k ≤ n → n ≤ k → some k f ≡ false → false ≡ some n f
+some_done n k f p q e = sym e ∙ ap (λ (m : ℕ). some m f) (le_antisymm p q)
+
 pub every_done : (n k : ℕ) (f : ℕ → Bool) → k ≤ n → n ≤ k → every k f ≡ true → true ≡ every n f
 every_done n k f p q e = sym e ∙ ap (λ (m : ℕ). every m f) (le_antisymm p q)
 

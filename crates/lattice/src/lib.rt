@@ -20,12 +20,17 @@ impl Table {
     // The most principals that a table may have.
     pub const MOST: usize = 32;
 
-    // Some principal has the mask m.
+    // Some principal has the mask m. (By index: so four masks are compared at a time; by `contains` 16 are, and by `any` one.)
     fn has_mask(&self, m: u32) -> bool
         requires { self.now.n ≤ most_principals }
         ensures { result ≡ has_mask self.now.masks self.now.n m }
     {
-        self.masks[..self.n].contains(&m)
+        for k in 0..self.n {
+            if self.masks[k] == m {
+                return true;
+            }
+        }
+        false
     }
 
     // The test of one pair, with its meet: the principal whose mask is the conjunction of theirs.

@@ -35,7 +35,7 @@ fn mask_above(sheet: &[u8], owner: usize) -> u32
 {
     let mut above = 0;
     for p in 0..principals_of(sheet) {
-        let stands = lattice::has_bit(store::mask_at(sheet, p), owner);
+        let stands = lattice::has_bit(store::mask_at(sheet, p as u8), owner);
         above = with_bit(above, p, stands);
     }
     above

@@ -123,7 +123,7 @@ impl<'t> Writer<'t> {
         for i in 0..slots {
             let owner = store::number_at(sheet, owners + i, 1);
             let v = store::value_at(out, Opened::SLOT_WIDTH * i);
-            let writes = store::count_at(out, i);
+            let writes = store::count_at(out, i as u16);
             let above = number_above(sheet, owner as usize);
             self.put_slot(i as u64, owner, v, writes, above);
         }
@@ -134,7 +134,7 @@ impl<'t> Writer<'t> {
         requires { (slots ≤ most_slots) × HasRoom self.old total_room }
         ensures { Written self.old (total_line out.now slots) total_room self.new }
     {
-        self.put_field(b"", store::counts_total(out, slots));
+        self.put_field(b"", store::counts_total(out, slots as u16));
         self.put_bytes(b"\n");
     }
 

@@ -60,8 +60,7 @@ pub fn block_terms(sheet: &[u8], table: &Table, judges: Judges, block: usize) ->
     requires { CanTell sheet.now block }
     ensures { Served table.now judges (header_at sheet.now block) result }
 {
-    let k = programme::blocks_of(sheet);
-    rules::terms_of(table, judges, programme::header_at(sheet, k, block))
+    rules::terms_of(table, judges, programme::header_at(sheet, block))
 }
 
 // Plays the blocks from a place on, which may stand inside a block, under the branch labels in force there. Each block's first row follows the end

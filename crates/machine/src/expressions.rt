@@ -3,20 +3,32 @@ ghost use Rattle.std.specs.Prelude.{◌≡◌, ◌<◌, Ok, bit_and};
 ghost use Rattle.machine.specs.Answers.{Got, got};
 ghost use Rattle.calculus.specs.Calculus.{integer_of, truth_of};
 ghost use Rattle.machine.specs.CompiledExpressions.{got_value};
-ghost use Rattle.machine.specs.MachineContracts.{grounds_of, CanJudge, SomeExpr, SomeLiteral, SomeOperation, ReadsThrough, Operates, CanFold, Folds, Evaluates, Aims};
+ghost use Rattle.machine.specs.MachineContracts.{grounds, grounds_of, CanJudge, SomeExpr, SomeLiteral, SomeOperation, ReadsThrough, Operates, CanFold, Folds, Evaluates, Aims};
 
+use super::rules::Terms;
 use super::slots;
 use super::slots::Grounds;
-use store::Value;
-use syntax::Operand;
+use lattice::Masks;
+use store::{Held, Value};
+use syntax::{Compiled, Operand};
 use values::Refusal;
 
-// An expression's value, with its label as a mask.
+// An expression's value, with its label as a mask. (Kind and payload stand apart: two numbers that lie side by side would be written one by one and read
+// as one, which stalls.)
 #[derive(Clone, Copy)]
 pub struct Labelled {
     pub kind: u64,
-    pub payload: u64,
     pub label: u32,
+    pub payload: u64,
+}
+
+impl Labelled {
+    // Stands where no value waits.
+    const NONE: Labelled = Labelled {
+        kind: 0,
+        label: 0,
+        payload: 0,
+    };
 }
 
 fn integer(payload: u64, label: u32) -> Labelled
@@ -64,6 +76,27 @@ fn operate(operation: u8, left: Labelled, right: Labelled) -> Result<Labelled, R
     }
 }
 
+// An expression with operations, judged by what is passed apart: a struct of four references would be written and read back at each one.
+#[inline(never)]
+fn eval_apart(
+    tables: &Compiled,
+    held: &Held,
+    masks: &Masks,
+    terms: &Terms,
+    o: usize,
+) -> Result<Labelled, Refusal>
+    requires { CanJudge (grounds terms.now masks.now held.now) × SomeOperation tables.now.operands o }
+    ensures { Evaluates (grounds terms.now masks.now held.now) tables.now.operands o (got result) }
+{
+    let judged = Grounds {
+        tables,
+        held,
+        masks,
+        terms,
+    };
+    judged.eval_operations(o)
+}
+
 impl Grounds<'_> {
     // The literal at operand o, from it outwards through its reads. What turns up is judged (15) before it is read through (13).
     pub(crate) fn read_through(self, o: usize) -> Result<Labelled, Refusal>
@@ -103,7 +136,7 @@ impl Grounds<'_> {
         requires { CanFold (grounds_of self) self.tables.now.operands from first.kind first.payload first.label }
         ensures { Folds (grounds_of self.entry) self.entry.tables.now.operands from first.kind first.payload first.label (got result) }
     {
-        let mut stack = [first; Operand::DEEPEST];
+        let mut stack = [Labelled::NONE; Operand::DEEPEST];
         let mut waiting = 0;
         let mut last = first;
         let mut o = from;
@@ -136,7 +169,7 @@ impl Grounds<'_> {
     }
 
     // An expression with operations, from its first operand on.
-    pub(crate) fn eval_operations(self, o: usize) -> Result<Labelled, Refusal>
+    fn eval_operations(self, o: usize) -> Result<Labelled, Refusal>
         requires { CanJudge (grounds_of self) × SomeOperation self.tables.now.operands o }
         ensures { Evaluates (grounds_of self.entry) self.entry.tables.now.operands o (got result) }
     {
@@ -150,7 +183,7 @@ impl Grounds<'_> {
         self.fold(o + 1, x)
     }
 
-    // A value: an expression, from its first operand on. (An instance for each user, `steps::Use`, is put in line, and `eval_operations` is not.)
+    // A value: an expression, from its first operand on. (An instance for each user, `steps::Use`, is put in line, and `eval_apart` is not.)
     pub(crate) fn eval<const FOR: u8>(self, o: usize) -> Result<Labelled, Refusal>
         requires { CanJudge (grounds_of self) × SomeExpr self.tables.now.operands o }
         ensures { Evaluates (grounds_of self.entry) self.entry.tables.now.operands o (got result) }
@@ -158,7 +191,7 @@ impl Grounds<'_> {
         if self.tables.operands[o].reads < Operand::MORE {
             return self.read_through(o);
         }
-        self.eval_operations(o)
+        eval_apart(self.tables, self.held, self.masks, self.terms, o)
     }
 
     // An assignment's target: a write view. No operation gives a view.
@@ -167,7 +200,7 @@ impl Grounds<'_> {
         ensures { Aims (grounds_of self.entry) self.entry.tables.now.operands o (got result) }
     {
         if Operand::MORE <= self.tables.operands[o].reads {
-            self.eval_operations(o)?;
+            eval_apart(self.tables, self.held, self.masks, self.terms, o)?;
             return Err(Refusal::WrongKind);
         }
         let x = self.read_through(o)?;

@@ -151,27 +151,31 @@ pub fn go(by: Given, labels: &mut Labels, held: &mut Held, from: Place) -> Resul
     // (No `for`: which row is next, and whether one is, stands in the tables.)
     loop {
         let row = &by.tables.rows[at.row];
-        let next = match row {
-            Row::End => {
-                return Ok(at);
-            }
-            Row::Jump { target } => Ok(Place {
+        // (Asked in turn: one `match` on the four cases is compiled to a jump by a table, which a processor may not guess.)
+        let next = if let Row::Jump { target } = row {
+            Ok(Place {
                 row: usize::from(*target),
                 steps: at.steps,
                 free: at.free,
-            }),
-            Row::Assign {
-                depth,
-                offset: _,
-                target,
-                value,
-            } => take_assign(by, labels, held, at, *depth, *target, *value),
-            Row::Guard {
-                depth,
-                offset: _,
-                operand,
-                other,
-            } => take_guard(by, labels, held, at, *depth, *operand, other),
+            })
+        } else if let Row::Assign {
+            depth,
+            offset: _,
+            target,
+            value,
+        } = row
+        {
+            take_assign(by, labels, held, at, *depth, *target, *value)
+        } else if let Row::Guard {
+            depth,
+            offset: _,
+            operand,
+            other,
+        } = row
+        {
+            take_guard(by, labels, held, at, *depth, *operand, other)
+        } else {
+            return Ok(at);
         };
         match next {
             Ok(place) => {

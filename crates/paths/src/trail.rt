@@ -9,9 +9,13 @@ use programme::Spot;
 use std::ops::ControlFlow;
 use syntax::Row;
 
-// A pause sheet, which is held as bytes: where its parts stand.
+// A pause sheet: what stands before the path's entries. (Only the constants are used: it is held as bytes.)
 #[derive(Clone, Copy)]
-pub struct Checkpoint;
+pub struct Checkpoint {
+    pub steps: u32,
+    pub open: u8,
+    pub block: u8,
+}
 
 impl Checkpoint {
     // The bytes of a sheet.

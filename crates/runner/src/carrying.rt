@@ -64,7 +64,9 @@ fn stand(
     }
 }
 
-// A stretch: what every run begins with (11; 1 to 10), the lengths of what is lent (12), the checkpoint (19), then the blocks.
+// A stretch: what every run begins with (11; 1 to 10), the lengths of what is lent (12), the checkpoint (19), then the blocks. (Put in line, so that its
+// tables take the room that a caller's other calls take.)
+#[inline(always)]
 fn stretch(
     store: &[u8],
     programme: &[u8],

@@ -22,7 +22,7 @@ pub(crate) fn output_good(out: &[u8], slots: usize, steps: u32) -> bool
     requires { slots ≤ most_slots }
     ensures { result ≡ output_good slots out.now steps }
 {
-    values_good(out, slots) && store::counts_total(out, slots) <= u64::from(steps)
+    values_good(out, slots) && store::counts_total(out, slots as u16) <= u64::from(steps)
 }
 
 // Slot i as it is held, with this owner.
@@ -31,7 +31,7 @@ fn row_in(out: &[u8], i: usize, owner: u64) -> HeldSlot
     ensures { result ≡ row_of (slot_in out.now i) owner }
 {
     let value = store::value_at(out, Opened::SLOT_WIDTH * i);
-    HeldSlot::of(value, owner, store::count_at(out, i))
+    HeldSlot::of(value, owner, store::count_at(out, i as u16))
 }
 
 // Puts the values and the counts of an output into its slots as they are held, which keep their owners.

@@ -1,6 +1,5 @@
 // The store sheet and the table sheet: the checks, and the order table.
 ghost use Rattle.std.specs.Prelude.{◌≡◌, ◌<◌, ◌≤◌, MatchResult};
-ghost use Rattle.lattice.specs.Order.{most_principals};
 ghost use Rattle.values.specs.Result.{ok, refuse, in_turn, refusal_of};
 ghost use Rattle.values.specs.Refusal.{number, said};
 ghost use Rattle.store.specs.Sheet.{owner_at, slot_value_at, mask_at, order_of, value_good, slot_checked, body_checked, sheet_checked, store_sheet, table_sheet};
@@ -55,7 +54,7 @@ impl<'a> Sheet<'a> {
     {
         let mut masks = [0u32; Table::MOST];
         for i in 0..self.principals {
-            masks[i] = mask_at(self.bytes, i);
+            masks[i] = mask_at(self.bytes, i as u8);
         }
         Table {
             n: self.principals,
@@ -118,12 +117,12 @@ impl<'a> Sheet<'a> {
     }
 }
 
-// Mask i of a sheet. (Of a slice that is an argument the proof knows that its entries are bytes; of one in a struct it does not.)
-pub fn mask_at(s: &[u8], i: usize) -> u32
-    requires { i < most_principals }
+// Mask i of a sheet; bytes past its end are 0. As i has one byte, no place overflows. (Of a slice that is an argument the proof knows that its entries are bytes; of one in a struct it does not.)
+pub fn mask_at(s: &[u8], i: u8) -> u32
     ensures { result ≡ mask_at s.now i }
 {
-    number_at(s, Opened::SIZES + Opened::MASK * i, Opened::MASK) as u32
+    let at = Opened::SIZES + Opened::MASK * usize::from(i);
+    number_at(s, at, Opened::MASK) as u32
 }
 
 // A sheet that passes its checks: the sizes are there (1) and within their limits (2), and so is what follows.

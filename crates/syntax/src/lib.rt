@@ -109,7 +109,7 @@ impl Operand {
 }
 
 // The tables that a programme is compiled into: instruction rows, and the operands of their expressions.
-#[derive(Drop)]
+#[derive(Clone, Copy)]
 pub struct Compiled {
     pub rows: [Row; Row::MOST],
     pub operands: [Operand; Operand::MOST],

@@ -41,16 +41,6 @@ enum Malformed {
     LeftOver { count: u64 },
 }
 
-impl Display for Malformed {
-    fn fmt<W: Write>(&self, f: &mut Formatter<W>) -> fmt::Result {
-        match self {
-            Malformed::NoCount { at } => write!(f, "cut off before its cases, at byte {at}"),
-            Malformed::Case { fault, case } => write!(f, "{fault} {case}"),
-            Malformed::LeftOver { count } => write!(f, "bytes left over after case {count}"),
-        }
-    }
-}
-
 // The kinds of call.
 #[derive(Clone, Copy, PartialEq, Eq)]
 enum Kind {
@@ -373,9 +363,31 @@ fn play_list(rt: &impl Print, input: &mut impl Read) -> Result<u64, Malformed> {
     Ok(count)
 }
 
-fn main(rt: HostRuntime) {
-    let _ = match play_list(&rt, &mut rt.stdin()) {
-        Ok(count) => println!(rt; "cases played: {count}"),
-        Err(malformed) => println!(rt; "list of cases: {malformed}"),
+// Says what is wrong with a list, in three writes.
+fn tell(rt: &impl Print, malformed: Malformed) {
+    put(rt, b"list of cases: ");
+    let number = match malformed {
+        Malformed::NoCount { at } => {
+            put(rt, b"cut off before its cases, at byte ");
+            at as u64
+        }
+        Malformed::Case { fault, case } => {
+            let _ = print!(rt; "{fault} ");
+            case
+        }
+        Malformed::LeftOver { count } => {
+            put(rt, b"bytes left over after case ");
+            count
+        }
     };
+    let _ = println!(rt; "{number}");
+}
+
+fn main(rt: HostRuntime) {
+    match play_list(&rt, &mut rt.stdin()) {
+        Ok(count) => {
+            let _ = println!(rt; "cases played: {count}");
+        }
+        Err(malformed) => tell(&rt, malformed),
+    }
 }

@@ -1,12 +1,10 @@
-use Prim.Native.Nat.{ℕ, ◌^◌, ◌*◌, ◌≤◌, ◌<◌}
-use mathlib.Core.List.{map}
-use Rattle.std.proofs.Common.{rules, arith, ◌≡◌, ◌∙◌}
-use Rattle.std.specs.List.{sum, range_with_len}
-use Rattle.std.proofs.lemmas.Iterator.{YieldsList, YieldsList-from_range, YieldsList-from_map}
+use Prim.Native.Nat.{ℕ, ◌^◌, ◌<◌}
+use Rattle.std.proofs.Common.{rules, arith, ◌∙◌}
+use Rattle.std.proofs.lemmas.Iterator.{YieldsList-from_range, YieldsList-from_map}
 use Rattle.std.proofs.lemmas.Iterator.Consumers.{sum_from_yields_List, fits_from_yields_list}
 use Rattle.values.specs.Value.{count_width}
 use Rattle.values.proofs.BytesNumbers.{number_lt}
-use Rattle.store.specs.Counts.{total, count_at}
+use Rattle.store.specs.Counts.{count_at}
 use Rattle.store.proofs.CountsAdded.{sum_entries, sum_below}
 use Rattle.store.proofs.counts.counts_total.Goals as goal
 

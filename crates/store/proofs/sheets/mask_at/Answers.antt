@@ -6,4 +6,4 @@ use Rattle.store.proofs.sheets.mask_at.Goals as goal
 
 pub overflow_cast-result : goal.overflow_cast-result
 overflow_cast-result c =
-    omega (arith, c.number_at.ensures, number_lt c.args.s.now (λ i. (c.type_inv.s i).fits) mask_width (sizes_width + mask_width * c.args.i))
+    omega (arith, c.number_at.ensures, number_lt c.args.s.now (λ i. (c.type_inv.s i).fits) mask_width (sizes_width + mask_width * c.from.result))

@@ -14,13 +14,13 @@ by g s = grounds_of s.args.self
 pub bounds-self-o : goal.bounds-self-o
 bounds-self-o g c = first_inside c.requires.0 c.requires.1
 
-pub returns-in_err-eval_operations : goal.returns-in_err-eval_operations
-returns-in_err-eval_operations g c w s e b h = rw (exit _ c.from_residual.ensures.1) (aim_refused w s e (c.in_err-eval_operations.ensures w s e b h))
+pub returns-in_err-eval_apart : goal.returns-in_err-eval_apart
+returns-in_err-eval_apart g c w s e b h = rw (exit _ c.from_residual.ensures.1) (aim_refused w s e (c.in_err-eval_apart.ensures w s e b h))
 
 pub returns-then-self-o-ge-MORE : goal.returns-then-self-o-ge-MORE
 unfolding number
 returns-then-self-o-ge-MORE g c =
-    no_aim c.if-self-o-ge-MORE.true {g = by g (goal.at.returns-then-self-o-ge-MORE g c).Start} c.in_ok-eval_operations.ensures
+    no_aim c.if-self-o-ge-MORE.true {g = by g (goal.at.returns-then-self-o-ge-MORE g c).Start} c.in_ok-eval_apart.ensures
 
 -- one literal
 pub read_through-requires : goal.read_through-requires
